@@ -1,0 +1,37 @@
+-- Sums of blocks and di-blocks: what is added twice is gone, and a sum of blocks is a block.
+use mathlib.Core.Path.{_≡_, refl, sym, ap, ap₂, _∙_}
+use mathlib.Core.List.{List, [], _∷_}
+use Prim.Native.Nat.{ℕ}
+use lib.Bits.{bitXor, xor-assoc, xor-comm, xor-self, xor-zero-r, xor-lt}
+use Rattle.block.specs.declared.diblock.DiBlock.{DiBlock}
+use Rattle.block.specs.Blocks.{IsBlock, di, add}
+
+pub cancel : (a b : ℕ) → bitXor (bitXor a b) b ≡ a
+cancel a b = xor-assoc a b b ∙ ap (bitXor a) (xor-self b) ∙ xor-zero-r a
+
+-- two sums taken twice
+pub cancel-two : (a z s : ℕ) → bitXor (bitXor (bitXor (bitXor a z) s) z) s ≡ a
+cancel-two a z s =
+    ap (λ x. bitXor x s) (xor-assoc (bitXor a z) s z ∙ ap (bitXor (bitXor a z)) (xor-comm s z) ∙ sym (xor-assoc (bitXor a z) z s) ∙ ap (λ x. bitXor x s) (cancel a z))
+    ∙ cancel a s
+
+pub add-add : (a b : DiBlock) → add (add a b) b ≡ a
+add-add a b = ap₂ di (cancel (a .left) (b .left)) (cancel (a .right) (b .right))
+
+-- both halves are blocks; and so of each di-block, and of each number, of a list
+abbrev pub Blocks : DiBlock → Type 0
+Blocks d = IsBlock (d .left) × IsBlock (d .right)
+
+abbrev pub AllBlocks : List DiBlock → Type 0
+AllBlocks [] = Unit {0}
+AllBlocks (d ∷ ds) = Blocks d × AllBlocks ds
+
+abbrev pub Fit : List ℕ → Type 0
+Fit [] = Unit {0}
+Fit (x ∷ xs) = IsBlock x × Fit xs
+
+pub fits-xor : (a b : ℕ) → IsBlock a → IsBlock b → IsBlock (bitXor a b)
+fits-xor a b p q = xor-lt 128 a b p q
+
+pub fits-add : (a b : DiBlock) → Blocks a → Blocks b → Blocks (add a b)
+fits-add a b p q = (fits-xor _ _ (p .0) (q .0), fits-xor _ _ (p .1) (q .1))
