@@ -1,0 +1,4 @@
+pub mod Parts
+pub mod Mode
+pub mod Permutes
+pub mod Running
