@@ -1,0 +1,10 @@
+use mathlib.Core.Path.{ap, _∙_}
+use Rattle.record.specs.Sheets.{making}
+use Rattle.record.proofs.Reading.{same}
+use Rattle.record.proofs.sheet.making.SheetRecord.read.Needs as need
+
+pub returns : need.returns
+returns c =
+    c .new .ensures
+    ∙ ap making
+    (same (c .read-sixteen .ensures) (c .read-sixteen-2 .ensures) (c .read-sixteen-3 .ensures) (c .read-sixteen-4 .ensures) (c .read-sixteen-5 .ensures) (c .read-sixteen-6 .ensures) (c .read-sixteen-7 .ensures))

@@ -1,0 +1,49 @@
+-- The fields of a commissioning sheet, their ranges, and their bytes.
+use mathlib.Core.List.{List, [], _∷_}
+use mathlib.Core.Bool.{Bool, cond, not, _&&_}
+use Prim.Native.Nat.{ℕ, suc}
+use lib.Dec.{leb, eqb}
+use Rattle.record.specs.Sixteens.{sixteens, field}
+use Rattle.record.specs.declared.fields.SheetFields.{SheetFields}
+
+abbrev pub within : ℕ → ℕ → ℕ → Bool
+within low high x = leb low x && leb x high
+
+-- which of fields 1 to 7 keep their rule
+abbrev pub rules : SheetFields → List Bool
+rules f =
+    within 1 9999 (f .sensor1)
+    ∷ (within 1 9999 (f .sensor2) && not (eqb (f .sensor2) (f .sensor1)))
+    ∷ within 0 1000 (f .flow)
+    ∷ within 0 1000 (f .returned)
+    ∷ within 0 1000 (f .water)
+    ∷ within 0 1000 (f .room)
+    ∷ within 0 1000 (f .brine)
+    ∷ []
+
+-- the place of the first rule that is broken, counted from k; 0 where none is
+abbrev pub broken : ℕ → List Bool → ℕ
+broken k [] = 0
+broken k (b ∷ bs) = cond b (broken (suc k) bs) k
+
+-- the lowest wrong field, or 0
+abbrev pub lowest : SheetFields → ℕ
+lowest f = broken 1 (rules f)
+
+abbrev pub sound : SheetFields → Bool
+sound f = eqb (lowest f) 0
+
+abbrev pub encoded : SheetFields → List ℕ
+encoded f = sixteens (f .sensor1 ∷ f .sensor2 ∷ f .flow ∷ f .returned ∷ f .water ∷ f .room ∷ f .brine ∷ [])
+
+abbrev pub decoded : List ℕ → SheetFields
+decoded x =
+    record {
+      sensor1 = field 0 x;
+      sensor2 = field 1 x;
+      flow = field 2 x;
+      returned = field 3 x;
+      water = field 4 x;
+      room = field 5 x;
+      brine = field 6 x;
+    }

@@ -1,0 +1,3 @@
+pub mod Sixteens
+pub mod Fields
+pub mod Sheets

@@ -1,0 +1,111 @@
+ghost use mathlib.Core.Path.{_≡_};
+ghost use Prim.Native.Nat.{_≤_};
+ghost use lib.Chars.{codes};
+ghost use Rattle.std.specs.Options.{Cases};
+ghost use Rattle.record.specs.Fields.{within, lowest};
+ghost use Rattle.record.specs.Sheets.{making, writing, reading as readingOf};
+use super::Sheet;
+use crate::fault::FieldFault;
+use crate::fields::SheetFields;
+use crate::kind::Record;
+use crate::sixteen::read_sixteen;
+use crate::sixteen::write_sixteens;
+
+fn is_sensor(x: u32) -> bool
+    ensures { λ r. ⌜ r ≡ within 1 9999 x ⌝ }
+{
+    1 <= x && x <= 9999
+}
+
+fn is_reading(x: u32) -> bool
+    ensures { λ r. ⌜ r ≡ within 0 1000 x ⌝ }
+{
+    x <= 1000
+}
+
+impl SheetFields {
+    // The lowest field that breaks its range or rule.
+    fn wrong(&self) -> Option<u8>
+        ensures { λ r. ⌜ Cases r (lowest (now (self .entry)) ≡ 0) (λ k. (1 ≤ k) × (lowest (now (self .entry)) ≡ k)) ⌝ }
+    {
+        if !is_sensor(self.sensor1) {
+            return Some(1);
+        }
+        if !is_sensor(self.sensor2) || self.sensor2 == self.sensor1 {
+            return Some(2);
+        }
+        if !is_reading(self.flow) {
+            return Some(3);
+        }
+        if !is_reading(self.returned) {
+            return Some(4);
+        }
+        if !is_reading(self.water) {
+            return Some(5);
+        }
+        if !is_reading(self.room) {
+            return Some(6);
+        }
+        if !is_reading(self.brine) {
+            return Some(7);
+        }
+        None
+    }
+}
+
+impl Sheet {
+    // The sheet of these fields, or which is the lowest wrong one.
+    pub fn new(fields: SheetFields) -> Result<Sheet, FieldFault>
+        ensures { λ r. ⌜ r ≡ making fields ⌝ }
+    {
+        match fields.wrong() {
+            None => Ok(Sheet { fields }),
+            Some(field) => Err(FieldFault { field }),
+        }
+    }
+
+    pub fn fields(&self) -> SheetFields
+        ensures { λ r. ⌜ r ≡ now (self .entry) .fields ⌝ }
+    {
+        self.fields
+    }
+}
+
+pub impl Record for Sheet as SheetRecord {
+    const LABEL: [u8; 4] = *b"COMM";
+
+    const WIDTH: usize = 14;
+
+    ghost label = { codes "COMM" };
+
+    ghost width = { 14 };
+
+    ghost written = { writing };
+
+    ghost reading = { readingOf };
+
+    fn tag() -> [u8; 4] {
+        Self::LABEL
+    }
+
+    fn size() -> usize {
+        Self::WIDTH
+    }
+
+    fn write(&self, out: &mut [u8]) {
+        let f = self.fields;
+        write_sixteens(out, &[f.sensor1, f.sensor2, f.flow, f.returned, f.water, f.room, f.brine]);
+    }
+
+    fn read(bytes: &[u8]) -> Result<Sheet, FieldFault> {
+        Sheet::new(SheetFields {
+            sensor1: read_sixteen(bytes, 0),
+            sensor2: read_sixteen(bytes, 1),
+            flow: read_sixteen(bytes, 2),
+            returned: read_sixteen(bytes, 3),
+            water: read_sixteen(bytes, 4),
+            room: read_sixteen(bytes, 5),
+            brine: read_sixteen(bytes, 6),
+        })
+    }
+}
