@@ -12,3 +12,8 @@ pub data Answer (T : Type 0) : Type 0 where
 abbrev pub answered : {T E : Type 0} → (E → List ℕ) → Result T E → Answer T
 answered numbers (Ok x) = accepted x
 answered numbers (Err e) = refused (numbers e)
+
+-- the same, where only a part of the value is told
+abbrev pub answeredAs : {T U E : Type 0} → (T → U) → (E → List ℕ) → Result T E → Answer U
+answeredAs part numbers (Ok x) = accepted (part x)
+answeredAs part numbers (Err e) = refused (numbers e)

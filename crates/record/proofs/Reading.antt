@@ -1,8 +1,8 @@
 -- The reading law of sheets.
 use mathlib.Core.Path.{_≡_, refl, sym, ap, ap₂, subst, _∙_}
-use mathlib.Core.Bool.{Bool, true, false, _&&_, not}
+use mathlib.Core.Bool.{Bool, true, false, cond, _&&_, not}
 use mathlib.Core.List.{List, [], _∷_}
-use Prim.Native.Nat.{ℕ, suc}
+use Prim.Native.Nat.{ℕ, suc, _≤_}
 use native.Mathlib.Omega.{arith}
 use lib.Dec.{T, T-prop, leb, eqb, eqb→eq, leb→le}
 use lib.ListN.{length}
@@ -10,14 +10,15 @@ use Rattle.std.specs.declared.result.Result.{Result}
 use Rattle.std.specs.declared.result.Result.the-variants.{Ok, Err}
 use Rattle.std.specs.shelf.Digits.{number, Under}
 use Rattle.std.specs.shelf.Lists.{All}
-use Rattle.std.proofs.shelf.Tests.{and-parts, leb-true}
+use Rattle.std.proofs.shelf.Tests.{and-parts, leb-true, eqb-true}
+use Rattle.block.specs.Answers.{answeredAs, accepted, refused}
 use Rattle.block.specs.Blocks.{bytes}
 use Rattle.block.proofs.OnBytes.{number-bytes}
 use Rattle.record.specs.declared.fault.FieldFault.{FieldFault}
 use Rattle.record.specs.declared.fields.SheetFields.{SheetFields}
 use Rattle.record.specs.declared.sheet.Sheet.{Sheet}
 use Rattle.record.specs.Fields.{within, rules, broken, lowest, sound, encoded, decoded}
-use Rattle.record.specs.Sheets.{byTest, making, writing, reading}
+use Rattle.record.specs.Sheets.{byTest, making, numbers, answer, writing, reading}
 use Rattle.record.proofs.Numbers.{sixteens-fields}
 
 none-broken : (k : ℕ) (bs : List Bool) → broken (suc k) bs ≡ 0 → All (λ b. b ≡ true) bs
@@ -63,6 +64,22 @@ made f false e p = absurd (subst T (sym e) p)
 
 pub making-sound : (f : SheetFields) (p : T (sound f)) → making f ≡ Ok (record { fields = f; ok = p })
 making-sound f p = made f (sound f) refl p
+
+-- what is made of others
+unmade : (f : SheetFields) (b : Bool) (e : b ≡ sound f) (k : ℕ) → 1 ≤ k → lowest f ≡ k → byTest f b e ≡ Err (record { field = k })
+unmade f true e k h q = let z = eqb-true (lowest f) 0 (sym e) in absurd (omega (arith, z, q))
+unmade f false e k h q = ap (λ n. Err (record { field = n })) q
+
+pub making-wrong : (f : SheetFields) (k : ℕ) → 1 ≤ k → lowest f ≡ k → making f ≡ Err (record { field = k })
+making-wrong f k h q = unmade f (sound f) refl k h q
+
+-- and what is answered
+told : (f : SheetFields) (b : Bool) (e : b ≡ sound f) → answeredAs (λ s. s .fields) numbers (byTest f b e) ≡ cond b (accepted f) (refused (8 ∷ lowest f ∷ []))
+told f true e = refl
+told f false e = refl
+
+pub making-answer : (f : SheetFields) → answeredAs (λ s. s .fields) numbers (making f) ≡ answer f
+making-answer f = told f (sound f) refl
 
 fieldsOr : Result Sheet FieldFault → SheetFields → SheetFields
 fieldsOr (Ok s) f = s .fields

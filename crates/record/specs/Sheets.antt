@@ -1,11 +1,12 @@
 -- Sheets as records.
 use mathlib.Core.Path.{_≡_, refl, subst}
 use mathlib.Core.List.{List, [], _∷_}
-use mathlib.Core.Bool.{Bool, true, false}
+use mathlib.Core.Bool.{Bool, true, false, cond}
 use Prim.Native.Nat.{ℕ}
 use lib.Dec.{T}
 use Rattle.std.specs.declared.result.Result.{Result}
 use Rattle.std.specs.declared.result.Result.the-variants.{Ok, Err}
+use Rattle.block.specs.Answers.{Answer, accepted, refused}
 use Rattle.record.specs.declared.fault.FieldFault.{FieldFault}
 use Rattle.record.specs.declared.fields.SheetFields.{SheetFields}
 use Rattle.record.specs.declared.sheet.Sheet.{Sheet}
@@ -25,6 +26,9 @@ writing s = encoded (s .fields)
 abbrev pub reading : List ℕ → Result Sheet FieldFault
 reading x = making (decoded x)
 
--- a field fault's number and its value
+-- what making answers, in numbers: 8 with the lowest wrong field where one is wrong
 abbrev pub numbers : FieldFault → List ℕ
 numbers e = 8 ∷ e .field ∷ []
+
+abbrev pub answer : SheetFields → Answer SheetFields
+answer f = cond (sound f) (accepted f) (refused (8 ∷ lowest f ∷ []))

@@ -2,8 +2,9 @@ ghost use mathlib.Core.Path.{_≡_};
 ghost use Prim.Native.Nat.{_≤_};
 ghost use lib.Chars.{codes};
 ghost use Rattle.std.specs.Options.{Cases};
+ghost use Rattle.block.specs.Answers.{answeredAs};
 ghost use Rattle.record.specs.Fields.{within, lowest};
-ghost use Rattle.record.specs.Sheets.{making, writing, reading as readingOf};
+ghost use Rattle.record.specs.Sheets.{making, numbers, answer, writing, reading as readingOf};
 use super::Sheet;
 use crate::fault::FieldFault;
 use crate::fields::SheetFields;
@@ -56,7 +57,8 @@ impl SheetFields {
 impl Sheet {
     // The sheet of these fields, or which is the lowest wrong one.
     pub fn new(fields: SheetFields) -> Result<Sheet, FieldFault>
-        ensures { λ r. ⌜ r ≡ making fields ⌝ }
+        ensures value { λ r. ⌜ r ≡ making fields ⌝ }
+        ensures answer { λ r. ⌜ answeredAs (λ s. s .fields) numbers r ≡ answer fields ⌝ }
     {
         match fields.wrong() {
             None => Ok(Sheet { fields }),
@@ -94,7 +96,18 @@ pub impl Record for Sheet as SheetRecord {
 
     fn write(&self, out: &mut [u8]) {
         let f = self.fields;
-        write_sixteens(out, &[f.sensor1, f.sensor2, f.flow, f.returned, f.water, f.room, f.brine]);
+        write_sixteens(
+            out,
+            &[
+                f.sensor1,
+                f.sensor2,
+                f.flow,
+                f.returned,
+                f.water,
+                f.room,
+                f.brine,
+            ],
+        );
     }
 
     fn read(bytes: &[u8]) -> Result<Sheet, FieldFault> {

@@ -5,6 +5,6 @@ use Rattle.record.proofs.sheet.making.SheetRecord.read.Needs as need
 
 pub returns : need.returns
 returns c =
-    c .new .ensures
+    c .new .ensures .value
     ∙ ap making
     (same (c .read-sixteen .ensures) (c .read-sixteen-2 .ensures) (c .read-sixteen-3 .ensures) (c .read-sixteen-4 .ensures) (c .read-sixteen-5 .ensures) (c .read-sixteen-6 .ensures) (c .read-sixteen-7 .ensures))
