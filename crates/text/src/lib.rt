@@ -1,0 +1,2 @@
+// Numbers in a line of text: decimal, parted by commas.
+pub mod numerals;
