@@ -3,6 +3,7 @@ ghost use Prim.Native.Nat.{_≤_};
 ghost use lib.ListN.{length, take, drop};
 ghost use Rattle.std.specs.declared.option.Option.the-variants.{Some, None};
 ghost use Rattle.std.specs.shelf.Text.{sameBytes};
+ghost use Rattle.page.specs.Laws.{Told};
 ghost use Rattle.page.specs.Pages.{head as headOf, plain, zeros, opened, openedAt, slotted};
 use crate::fault::PageFault;
 use crate::fault::PageFromField;
@@ -117,7 +118,8 @@ fn at_slot<T>(slot: u8, r: Result<T, PageFault>) -> Result<T, SlotFault>
 // What the plain page of a slot says: nothing, a record, or why it is no page of this slot.
 pub fn open<R: Record>(page: &[u8], slot: u8) -> Result<Option<R>, SlotFault>
     requires { ⌜ 64 ≤ length (now page) ⌝ }
-    ensures { λ r. ⌜ r ≡ openedAt R·Record slot (now (page .entry)) ⌝ }
+    ensures value { λ r. ⌜ r ≡ openedAt R·Record slot (now (page .entry)) ⌝ }
+    ensures told { λ _. ⌜ Told R·Record ⌝ }
 {
     at_slot(slot, open_page::<R>(page, slot))
 }
