@@ -1,1 +1,2 @@
 pub mod Tweaks
+pub mod Bench

@@ -1,4 +1,4 @@
-ghost use lib.Bits.{bitXor};
+ghost use Rattle.cipher.specs.Bench.{benchSum};
 use crate::tweak::Tweak;
 use crate::tweakable::TweakableCipher;
 use block::diblock::Block;
@@ -8,15 +8,15 @@ use block::diblock::Block;
 pub struct BenchCipher;
 
 pub impl TweakableCipher for BenchCipher as BenchTweakable {
-    ghost encrypted = { λ _ head body x. bitXor body x };
+    ghost encrypted = { λ _. benchSum };
 
-    ghost decrypted = { λ _ head body x. bitXor body x };
+    ghost decrypted = { λ _. benchSum };
 
     fn encrypt(&self, tweak: Tweak, block: Block) -> Block {
         tweak.body ^ block
     }
 
     fn decrypt(&self, tweak: Tweak, block: Block) -> Block {
-        tweak.body ^ block
+        self.encrypt(tweak, block)
     }
 }

@@ -90,7 +90,7 @@ unfolding fieldsOr
 kept f true e = refl
 kept f false e = refl
 
-made-fields : (f : SheetFields) (s : Sheet) → making f ≡ Ok s → f ≡ s .fields
+pub made-fields : (f : SheetFields) (s : Sheet) → making f ≡ Ok s → f ≡ s .fields
 unfolding fieldsOr
 made-fields f s e = kept f (sound f) refl ∙ ap (λ r. fieldsOr r f) e
 

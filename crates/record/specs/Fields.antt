@@ -3,6 +3,7 @@ use mathlib.Core.List.{List, [], _∷_}
 use mathlib.Core.Bool.{Bool, cond, not, _&&_}
 use Prim.Native.Nat.{ℕ, suc}
 use lib.Dec.{leb, eqb}
+use lib.ListN.{getD}
 use Rattle.record.specs.Sixteens.{sixteens, field}
 use Rattle.record.specs.declared.fields.SheetFields.{SheetFields}
 
@@ -33,8 +34,25 @@ lowest f = broken 1 (rules f)
 abbrev pub sound : SheetFields → Bool
 sound f = eqb (lowest f) 0
 
+-- the seven numbers in order, and back
+abbrev pub listOf : SheetFields → List ℕ
+listOf f = f .sensor1 ∷ f .sensor2 ∷ f .flow ∷ f .returned ∷ f .water ∷ f .room ∷ f .brine ∷ []
+
+abbrev pub fieldsOf : List ℕ → SheetFields
+fieldsOf n =
+    record {
+      sensor1 = getD n 0 0;
+      sensor2 = getD n 1 0;
+      flow = getD n 2 0;
+      returned = getD n 3 0;
+      water = getD n 4 0;
+      room = getD n 5 0;
+      brine = getD n 6 0;
+    }
+
+-- in bytes, and back
 abbrev pub encoded : SheetFields → List ℕ
-encoded f = sixteens (f .sensor1 ∷ f .sensor2 ∷ f .flow ∷ f .returned ∷ f .water ∷ f .room ∷ f .brine ∷ [])
+encoded f = sixteens (listOf f)
 
 abbrev pub decoded : List ℕ → SheetFields
 decoded x =

@@ -3,7 +3,7 @@ ghost use Prim.Native.Nat.{_≤_};
 ghost use lib.Chars.{codes};
 ghost use Rattle.std.specs.Options.{Cases};
 ghost use Rattle.block.specs.Answers.{answeredAs};
-ghost use Rattle.record.specs.Fields.{within, lowest};
+ghost use Rattle.record.specs.Fields.{within, lowest, listOf, fieldsOf};
 ghost use Rattle.record.specs.Sheets.{making, numbers, answer, writing, reading as readingOf};
 use super::Sheet;
 use crate::fault::FieldFault;
@@ -25,6 +25,36 @@ fn is_reading(x: u32) -> bool
 }
 
 impl SheetFields {
+    // The seven numbers in order.
+    pub fn numbers(self) -> [u32; 7]
+        ensures { λ r. ⌜ r ≡ listOf self ⌝ }
+    {
+        [
+            self.sensor1,
+            self.sensor2,
+            self.flow,
+            self.returned,
+            self.water,
+            self.room,
+            self.brine,
+        ]
+    }
+
+    // The fields of seven numbers in order.
+    pub fn of(list: [u32; 7]) -> SheetFields
+        ensures { λ r. ⌜ r ≡ fieldsOf list ⌝ }
+    {
+        SheetFields {
+            sensor1: list[0],
+            sensor2: list[1],
+            flow: list[2],
+            returned: list[3],
+            water: list[4],
+            room: list[5],
+            brine: list[6],
+        }
+    }
+
     // The lowest field that breaks its range or rule.
     fn wrong(&self) -> Option<u8>
         ensures { λ r. ⌜ Cases r (lowest (now (self .entry)) ≡ 0) (λ k. (1 ≤ k) × (lowest (now (self .entry)) ≡ k)) ⌝ }
@@ -95,19 +125,7 @@ pub impl Record for Sheet as SheetRecord {
     }
 
     fn write(&self, out: &mut [u8]) {
-        let f = self.fields;
-        write_sixteens(
-            out,
-            &[
-                f.sensor1,
-                f.sensor2,
-                f.flow,
-                f.returned,
-                f.water,
-                f.room,
-                f.brine,
-            ],
-        );
+        write_sixteens(out, &self.fields.numbers());
     }
 
     fn read(bytes: &[u8]) -> Result<Sheet, FieldFault> {
