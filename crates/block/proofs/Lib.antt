@@ -1,3 +1,4 @@
+pub mod Below
 pub mod Words
 pub mod Sums
 pub mod Powers

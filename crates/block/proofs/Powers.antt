@@ -6,10 +6,10 @@ use native.Mathlib.Nat.{zero-add, suc-add, mul-zero, mul-add, mul-one}
 use native.Mathlib.Omega.{arith}
 use Rattle.std.proofs.shelf.Lists.{length-push}
 use lib.ListN.{length}
-use lib.Bits.{bitXor, xor-assoc, xor-comm, xor-zero-r, xor-block, xor-mod, xor-shr}
+use lib.Bits.{bitXor, xor-assoc, xor-zero-r, xor-mod, xor-shr}
 use Rattle.block.specs.Blocks.{IsBlock}
 use Rattle.block.specs.Alpha.{α, α^, Σα}
-use Rattle.block.proofs.Sums.{Fit, fits-xor}
+use Rattle.block.proofs.Sums.{Fit, fits-xor, xor-four, xor-two}
 
 pub fits-α : (x : ℕ) → IsBlock x → IsBlock (α x)
 fits-α x p = fits-xor (2 * x % 2 ^ 128) (x / 2 ^ 127 % 2 * 0x87) (omega arith) (omega arith)
@@ -22,13 +22,6 @@ pub fits-Σα : (e : ℕ) (xs : List ℕ) → Fit xs → IsBlock (Σα e xs)
 fits-Σα e [] p = omega arith
 fits-Σα e (x ∷ xs) p = fits-xor (α^ (e * length xs) x) (Σα e xs) (fits-α^ (e * length xs) x (p .0)) (fits-Σα e xs (p .1))
 
-double-xor : (x y : ℕ) → 2 * bitXor x y ≡ bitXor (2 * x) (2 * y)
-double-xor x y =
-    omega (arith, xor-block 1 x y 0 0 (omega arith) (omega arith), ap₂ bitXor (twice x) (twice y))
-  where
-    twice : (x : ℕ) → x * 2 ^ 1 + 0 ≡ 2 * x
-    twice x = omega arith
-
 bit : (a b : ℕ) → a < 2 → b < 2 → bitXor a b * 0x87 ≡ bitXor (a * 0x87) (b * 0x87)
 bit zero zero p q = refl
 bit zero (suc zero) p q = refl
@@ -38,18 +31,12 @@ bit zero (suc (suc b)) p q = absurd (omega arith)
 bit (suc zero) (suc (suc b)) p q = absurd (omega arith)
 bit (suc (suc a)) b p q = absurd (omega arith)
 
-swap4 : (a b c d : ℕ) → bitXor (bitXor a b) (bitXor c d) ≡ bitXor (bitXor a c) (bitXor b d)
-swap4 a b c d =
-    xor-assoc a b (bitXor c d)
-    ∙ ap (bitXor a) (sym (xor-assoc b c d) ∙ ap (λ x. bitXor x d) (xor-comm b c) ∙ xor-assoc c b d)
-    ∙ sym (xor-assoc a c (bitXor b d))
-
 pub α-xor : (x y : ℕ) → α (bitXor x y) ≡ bitXor (α x) (α y)
 α-xor x y =
-    let low : 2 * bitXor x y % 2 ^ 128 ≡ bitXor (2 * x % 2 ^ 128) (2 * y % 2 ^ 128) = ap (λ n. n % 2 ^ 128) (double-xor x y) ∙ xor-mod (2 * x) (2 * y) 128 in
+    let low : 2 * bitXor x y % 2 ^ 128 ≡ bitXor (2 * x % 2 ^ 128) (2 * y % 2 ^ 128) = ap (λ n. n % 2 ^ 128) (xor-two x y) ∙ xor-mod (2 * x) (2 * y) 128 in
     let top : bitXor x y / 2 ^ 127 % 2 ≡ bitXor (x / 2 ^ 127 % 2) (y / 2 ^ 127 % 2) = ap (λ n. n % 2) (xor-shr x y 127) ∙ xor-mod (x / 2 ^ 127) (y / 2 ^ 127) 1 in
     ap₂ bitXor low (ap (λ n. n * 0x87) top ∙ bit (x / 2 ^ 127 % 2) (y / 2 ^ 127 % 2) (omega arith) (omega arith))
-    ∙ swap4 (2 * x % 2 ^ 128) (2 * y % 2 ^ 128) (x / 2 ^ 127 % 2 * 0x87) (y / 2 ^ 127 % 2 * 0x87)
+    ∙ xor-four (2 * x % 2 ^ 128) (2 * y % 2 ^ 128) (x / 2 ^ 127 % 2 * 0x87) (y / 2 ^ 127 % 2 * 0x87)
 
 pub α^-xor : (n x y : ℕ) → α^ n (bitXor x y) ≡ bitXor (α^ n x) (α^ n y)
 α^-xor zero x y = refl

@@ -1,6 +1,6 @@
 -- The worked cases, from the definitions. Messages are enciphered under the bench cipher.
 use mathlib.Core.Path.{_≡_}
-use mathlib.Core.List.{List, [], _∷_, _++_}
+use mathlib.Core.List.{List, [], _∷_, _++_, map}
 use Prim.Native.Nat.{ℕ}
 use lib.ListN.{replicate}
 use Rattle.block.specs.Answers.{accepted, refused}
@@ -8,6 +8,8 @@ use Rattle.block.specs.Blocks.{bytes, block}
 use Rattle.block.specs.Alpha.{α}
 use Rattle.cipher.specs.Bench.{benchSum}
 use Rattle.mode.specs.Permutes.{enciphered}
+use Rattle.skinny.specs.Sbox.{sub}
+use Rattle.skinny.specs.Skinny.{constantAt}
 use Rattle.zcz.specs.Refusals as mode
 use Rattle.record.specs.declared.fields.SheetFields.{SheetFields}
 use Rattle.record.specs.Sheets as sheet
@@ -32,6 +34,8 @@ flowing t = record { sensor1 = 1; sensor2 = 2; flow = t; returned = 300; water =
 pub record Cases : Type 0 where
   pub alpha-carries : doubled (0x80 ∷ replicate 15 0) ≡ ending 0x87
   pub alpha-shifts : doubled (ending 1) ≡ ending 2
+  pub sbox-00 : sub 0x00 ≡ 0x65
+  pub constants : map constantAt (0 ∷ 1 ∷ 2 ∷ []) ≡ 0x01 ∷ 0x03 ∷ 0x07 ∷ []
   pub zeros-32 : sealed (replicate 32 0) ≡ replicate 32 0
   pub one-di-block : sealed (all 0x11 ++ all 0x22) ≡ all 0x22 ++ all 0x33
   pub zeros-33 : sealed (replicate 33 0) ≡ replicate 17 0 ++ (0x80 ∷ replicate 15 0)

@@ -4,5 +4,5 @@ ghost use Rattle.cases.specs.Table.{Cases};
 pub fn cases_stand() -> u8
     ensures { λ _. ⌜ Cases ⌝ }
 {
-    9
+    11
 }

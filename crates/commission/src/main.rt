@@ -2,8 +2,7 @@
 mod intake;
 mod refusal;
 
-use cipher::bench::BenchCipher;
-use cipher::bench::BenchTweakable;
+use block::diblock::Block;
 use intake::sheet_of;
 use page::fault::SlotFault;
 use page::plain::lay_record;
@@ -13,11 +12,16 @@ use record::sheet::SheetRecord;
 use refusal::Refusal;
 use seal::seal_record;
 use seal::unseal;
+use skinny::Skinny;
+use skinny::SkinnyTweakable;
 use std::io;
 use std::io::BufRead;
 use std::io::BufReader;
 
 const SLOT: u8 = 1;
+
+// Sixteen zero bytes.
+const KEY: Block = 0;
 
 fn print_numbers(rt: &LibcRuntime, title: &str, sheet: &Sheet) -> io::Result<()> {
     let [a, b, c, d, e, f, g] = sheet.fields().numbers();
@@ -45,12 +49,12 @@ fn found(content: Result<Option<Sheet>, SlotFault>) -> Option<Sheet> {
 
 // Seals the sheet into a page, opens the page again, and prints each step.
 fn report(rt: &LibcRuntime, sheet: &Sheet, page: &mut [u8; 64]) -> io::Result<()> {
-    let cipher = BenchCipher;
+    let cipher = Skinny::new(KEY);
     print_numbers(rt, "taken: ", sheet)?;
     lay_record(page, SLOT, sheet);
     print_bytes(rt, "plain page of slot 1:", page)?;
     seal_record(&cipher, page, SLOT, sheet);
-    print_bytes(rt, "sealed page:", page)?;
+    print_bytes(rt, "page sealed with SKINNY under a key of zeros:", page)?;
     match found(unseal(&cipher, page, SLOT)) {
         Some(found) => {
             print_numbers(rt, "read back: ", &found)?;

@@ -1,0 +1,6 @@
+pub mod Cell
+pub mod Linear
+pub mod Moved
+pub mod Loops
+pub mod Inverse
+pub mod TwoRounds

@@ -1,0 +1,4 @@
+pub mod Sbox
+pub mod Skinny
+pub mod Cases
+pub mod Running
