@@ -11,7 +11,7 @@ use std::ops::BitXor;
 use std::simd::prelude::*;
 
 // The block that the 16 bytes from `at` on write.
-fn read_block(m: &[u8], at: usize) -> Block
+pub fn read_block(m: &[u8], at: usize) -> Block
     requires { ⌜ at + 16 ≤ length (now m) ⌝ }
     ensures { λ r. ⌜ r ≡ blockOf (drop at (now (m .entry))) ⌝ }
 {

@@ -1,15 +1,20 @@
 -- Numbers of 16 bits in bytes: two bytes written and read, and a loop that writes them.
-use mathlib.Core.Path.{_≡_, refl, sym, ap, ap₂, _∙_}
+use mathlib.Core.Path.{_≡_, refl, sym, ap, ap₂, subst, _∙_}
+use mathlib.Core.Bool.{true}
 use mathlib.Core.List.{List, [], _∷_, _++_, append-assoc}
-use Prim.Native.Nat.{ℕ, zero, suc, _+_, _*_, _/_, _%_, _≤_, _<_}
+use Prim.Native.Nat.{ℕ, zero, suc, _+_, _*_, _/_, _%_, _^_, _≤_, _<_}
 use native.Mathlib.Omega.{arith}
 use native.Mathlib.Numerals.{add-one}
+use lib.Dec.{leb}
 use lib.ListN.{length, take, drop, set, getD}
-use lib.Seq.{drop-cons}
+use lib.Seq.{drop-cons, take-add}
 use Rattle.std.specs.shelf.Digits.{number, Under}
-use Rattle.std.proofs.shelf.Lists.{length-drop, take-at, drop-at, drop-all, drop-drop, take-more, length-take-le, take-append-drop}
+use Rattle.std.proofs.shelf.Lists.{length-drop, take-at, drop-at, drop-drop, take-more, length-take-le}
+use Rattle.std.proofs.shelf.Digits.{number-lt}
+use Rattle.std.proofs.shelf.Tests.{and-parts, leb-true}
 use Rattle.block.specs.Blocks.{bytes}
-use Rattle.block.proofs.OnBytes.{under-bytes, under-append, under-take, under-drop, bytes-number}
+use Rattle.block.proofs.OnBytes.{under-bytes, under-append, under-take, under-drop, bytes-number, number-bytes}
+use Rattle.record.specs.Rules.{within}
 use Rattle.record.specs.Sixteens.{sixteens, field}
 
 -- two elements set side by side
@@ -67,20 +72,36 @@ sixteens-more ns m k m₀ m₁ h done wrote =
     on : (k : ℕ) → 2 * k + 2 ≡ 2 * (k + 1)
     on k = omega arith
 
+length-field : (k : ℕ) (x : List ℕ) → 2 * k + 2 ≤ length x → length (take 2 (drop (2 * k) x)) ≡ 2
+length-field k x h = length-take-le 2 (drop (2 * k) x) (simp length-drop (omega arith))
+
 -- n numbers from place k on
 abbrev pub fields : ℕ → ℕ → List ℕ → List ℕ
 fields zero k x = []
 fields (suc n) k x = field k x ∷ fields n (suc k) x
 
-pub sixteens-fields : (n k : ℕ) (x : List ℕ) → length x ≡ 2 * k + 2 * n → Under 256 x → sixteens (fields n k x) ≡ drop (2 * k) x
-sixteens-fields zero k x e u = sym (drop-all (2 * k) x (omega arith))
-sixteens-fields (suc n) k x e u =
+pub sixteens-fields : (n k : ℕ) (x : List ℕ) → 2 * k + 2 * n ≤ length x → Under 256 x → sixteens (fields n k x) ≡ take (2 * n) (drop (2 * k) x)
+sixteens-fields zero k x h u = refl
+sixteens-fields (suc n) k x h u =
     let rest : List ℕ = drop (2 * k) x in
-    let long : 2 ≤ length rest = simp length-drop (omega arith) in
     ap₂ (λ a b. a ++ b)
-    (bytes-number 2 (take 2 rest) (length-take-le 2 rest long) (under-take 2 rest (under-drop (2 * k) x u)))
-    (sixteens-fields n (suc k) x (omega arith) u ∙ ap (λ i. drop i x) (on k) ∙ sym (drop-drop 2 (2 * k) x))
-    ∙ take-append-drop 2 rest
+    (bytes-number 2 (take 2 rest) (length-field k x (omega arith)) (under-take 2 rest (under-drop (2 * k) x u)))
+    (sixteens-fields n (suc k) x (omega arith) u ∙ ap (λ i. take (2 * n) (drop i x)) (on k) ∙ ap (take (2 * n)) (sym (drop-drop 2 (2 * k) x)))
+    ∙ sym (ap (λ i. take i rest) (more n) ∙ take-add 2 (2 * n) rest)
   where
     on : (k : ℕ) → 2 * suc k ≡ 2 * k + 2
     on k = omega arith
+
+    more : (n : ℕ) → 2 * suc n ≡ 2 + 2 * n
+    more n = omega arith
+
+pub field-lt : (k : ℕ) (x : List ℕ) → 2 * k + 2 ≤ length x → Under 256 x → field k x < 2 ^ 16
+field-lt k x h u =
+    let two : List ℕ = take 2 (drop (2 * k) x) in
+    subst (λ n. number 256 two < 256 ^ n) (length-field k x h) (number-lt 256 two (under-take 2 (drop (2 * k) x) (under-drop (2 * k) x u)))
+
+-- a number comes back from its two bytes
+pub back : (low high x : ℕ) → high ≤ 9999 → within low high x ≡ true → number 256 (bytes 2 x) ≡ x
+back low high x h e =
+    let p = leb-true x high (and-parts (leb low x) (leb x high) e .1) in
+    number-bytes 2 x (omega arith)

@@ -1,14 +1,12 @@
 -- The fields of a commissioning sheet, their ranges, and their bytes.
 use mathlib.Core.List.{List, [], _∷_}
-use mathlib.Core.Bool.{Bool, cond, not, _&&_}
-use Prim.Native.Nat.{ℕ, suc}
-use lib.Dec.{leb, eqb}
+use mathlib.Core.Bool.{Bool, not, _&&_}
+use Prim.Native.Nat.{ℕ}
+use lib.Dec.{eqb}
 use lib.ListN.{getD}
+use Rattle.record.specs.Rules.{within, kept}
 use Rattle.record.specs.Sixteens.{sixteens, field}
 use Rattle.record.specs.declared.fields.SheetFields.{SheetFields}
-
-abbrev pub within : ℕ → ℕ → ℕ → Bool
-within low high x = leb low x && leb x high
 
 -- which of fields 1 to 7 keep their rule
 abbrev pub rules : SheetFields → List Bool
@@ -22,17 +20,8 @@ rules f =
     ∷ within 0 1000 (f .brine)
     ∷ []
 
--- the place of the first rule that is broken, counted from k; 0 where none is
-abbrev pub broken : ℕ → List Bool → ℕ
-broken k [] = 0
-broken k (b ∷ bs) = cond b (broken (suc k) bs) k
-
--- the lowest wrong field, or 0
-abbrev pub lowest : SheetFields → ℕ
-lowest f = broken 1 (rules f)
-
 abbrev pub sound : SheetFields → Bool
-sound f = eqb (lowest f) 0
+sound f = kept (rules f)
 
 -- the seven numbers in order, and back
 abbrev pub listOf : SheetFields → List ℕ

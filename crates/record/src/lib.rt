@@ -2,5 +2,7 @@
 pub mod fault;
 pub mod fields;
 pub mod kind;
+pub mod parameters;
+pub mod setting;
 pub mod sheet;
 mod sixteen;

@@ -1,15 +1,16 @@
 // Numbers of 16 bits in bytes, high byte first.
 ghost use mathlib.Core.Path.{_≡_};
 ghost use mathlib.Core.List.{_++_};
-ghost use Prim.Native.Nat.{ℕ, _+_, _*_, _≤_};
+ghost use Prim.Native.Nat.{ℕ, _+_, _*_, _^_, _<_, _≤_};
 ghost use lib.ListN.{length, take, drop};
 ghost use Rattle.block.specs.Blocks.{bytes as bytesOf};
-ghost use Rattle.record.specs.Sixteens.{sixteens, field as fieldOf};
+ghost use Rattle.record.specs.Sixteens.{sixteens, field as fieldOf, twos, signed};
 
 // The number at place k, from 0.
 pub fn read_sixteen(bytes: &[u8], k: usize) -> u32
     requires { ⌜ 2 * k + 2 ≤ length (now bytes) ⌝ }
-    ensures { λ r. ⌜ r ≡ fieldOf k (now (bytes .entry)) ⌝ }
+    ensures value { λ r. ⌜ r ≡ fieldOf k (now (bytes .entry)) ⌝ }
+    ensures below { λ r. ⌜ r < 2 ^ 16 ⌝ }
 {
     bytes[2 * k] as u32 * 256 + bytes[2 * k + 1] as u32
 }
@@ -30,5 +31,24 @@ pub fn write_sixteens(out: &mut [u8], numbers: &[u32])
 {
     for (k, n) in numbers.iter().enumerate() {
         write_sixteen(out, k, *n);
+    }
+}
+
+// Two's complement in 16 bits.
+pub fn to_twos(n: i32) -> u32
+    ensures { λ r. ⌜ r ≡ twos n ⌝ }
+{
+    n.rem_euclid(65536) as u32
+}
+
+// The signed number that has this two's complement.
+pub fn from_twos(n: u32) -> i32
+    requires { ⌜ n < 2 ^ 16 ⌝ }
+    ensures { λ r. ⌜ r ≡ signed n ⌝ }
+{
+    if n < 32768 {
+        n as i32
+    } else {
+        n as i32 - 65536
     }
 }

@@ -1,10 +1,10 @@
 ghost use mathlib.Core.Path.{_≡_};
-ghost use Prim.Native.Nat.{_≤_};
 ghost use lib.Chars.{codes};
-ghost use Rattle.std.specs.Options.{Cases};
 ghost use Rattle.block.specs.Answers.{answeredAs};
-ghost use Rattle.record.specs.Fields.{within, lowest, listOf, fieldsOf};
-ghost use Rattle.record.specs.Sheets.{making, numbers, answer, writing, reading as readingOf};
+ghost use Rattle.record.specs.Makings.{numbers};
+ghost use Rattle.record.specs.Rules.{within, Named};
+ghost use Rattle.record.specs.Fields.{rules, listOf, fieldsOf};
+ghost use Rattle.record.specs.Sheets.{making, answer, writing, reading as readingOf};
 use super::Sheet;
 use crate::fault::FieldFault;
 use crate::fields::SheetFields;
@@ -57,7 +57,7 @@ impl SheetFields {
 
     // The lowest field that breaks its range or rule.
     fn wrong(&self) -> Option<u8>
-        ensures { λ r. ⌜ Cases r (lowest (now (self .entry)) ≡ 0) (λ k. (1 ≤ k) × (lowest (now (self .entry)) ≡ k)) ⌝ }
+        ensures { λ r. ⌜ Named (rules (now (self .entry))) r ⌝ }
     {
         if !is_sensor(self.sensor1) {
             return Some(1);

@@ -1,16 +1,18 @@
-use mathlib.Core.Path.{sym, ap, _∙_}
-use Rattle.block.specs.Answers.{answeredAs}
-use Rattle.record.specs.Sheets.{numbers}
-use Rattle.record.proofs.Reading.{making-sound, making-wrong, making-answer}
+use mathlib.Core.Path.{refl, sym}
+use Rattle.record.specs.Fields.{rules}
+use Rattle.record.specs.Sheets.{made}
+use Rattle.record.proofs.Made.{making-sound, making-wrong, making-answer}
 use Rattle.record.proofs.sheet.Sheet.new.Needs as need
 
 pub returns-in-None : need.returns-in-None
 returns-in-None c =
-    let made = sym (making-sound (c .args .fields) _) in
-    record { value = made; answer = ap (answeredAs (λ s. s .fields) numbers) made ∙ making-answer (c .args .fields) }
+    let f = c .args .fields in
+    let made-is = sym (making-sound rules made f _) in
+    record { value = made-is; answer = making-answer rules made (λ s. s .fields) (λ g p. refl) f _ made-is }
 
 pub returns-in-Some : need.returns-in-Some
 returns-in-Some c =
+    let f = c .args .fields in
     let told = c .in-Some .ensures tt in
-    let made = sym (making-wrong (c .args .fields) (c .in-Some .field) (told .0) (told .1)) in
-    record { value = made; answer = ap (answeredAs (λ s. s .fields) numbers) made ∙ making-answer (c .args .fields) }
+    let made-is = sym (making-wrong rules made f (c .in-Some .field) (told .0) (told .1)) in
+    record { value = made-is; answer = making-answer rules made (λ s. s .fields) (λ g p. refl) f _ made-is }

@@ -7,4 +7,4 @@ pub returns : need.returns
 returns c =
     c .new .ensures .value
     ∙ ap making
-    (same (c .read-sixteen .ensures) (c .read-sixteen-2 .ensures) (c .read-sixteen-3 .ensures) (c .read-sixteen-4 .ensures) (c .read-sixteen-5 .ensures) (c .read-sixteen-6 .ensures) (c .read-sixteen-7 .ensures))
+    (same (c .read-sixteen .ensures .value) (c .read-sixteen-2 .ensures .value) (c .read-sixteen-3 .ensures .value) (c .read-sixteen-4 .ensures .value) (c .read-sixteen-5 .ensures .value) (c .read-sixteen-6 .ensures .value) (c .read-sixteen-7 .ensures .value))

@@ -1,0 +1,12 @@
+use native.Mathlib.Omega.{arith}
+use Rattle.timing.proofs.Turns.{turn, ended, none}
+use Rattle.timing.proofs.decipher_times.Needs as need
+
+pub loop-i-holds : need.loop-i-holds
+loop-i-holds g c = none _ (c .args .message .now)
+
+pub loop-i-again : need.loop-i-again
+loop-i-again g c = turn _ (c .args .message .now) (c .loop-i .-i) (c .loop-i .inv) (c .decipher .ensures .wrote)
+
+pub returns : need.returns
+returns g c = ended _ (c .args .message .now) (c .loop-i .-i) (c .args .n) (c .loop-i .inv) (omega arith)
