@@ -14,7 +14,7 @@ use Rattle.block.proofs.Sums.{cancel, cancel-two, add-add, Blocks, AllBlocks, F
 use Rattle.block.proofs.Powers.{fits-Σα}
 use Rattle.block.proofs.OnBytes.{fits-read, under-append, under-zeros, under-write}
 use Rattle.mode.specs.Parts.{Parts, parts, onto, padded}
-use Rattle.mode.specs.Mode.{each, lefts, rights, both, hash, tailHash, top, crossed, xsums, mix, chain, mask, bottom, ysums, close, core, encipherParts, untop, unmix, unbottom, unclose, uncore, decipherParts}
+use Rattle.mode.specs.Mode.{each, lefts, rights, both, xstar, ystar, hash, tailHash, top, crossed, xsums, mix, chain, mask, bottom, ysums, close, core, encipherParts, untop, unmix, unbottom, unclose, uncore, decipherParts}
 use Rattle.mode.proofs.Layers.{onto-onto, length-onto, under-onto, each-length, each-fits, each-back, map-fits}
 use Rattle.mode.proofs.Partition.{Good}
 
@@ -26,8 +26,8 @@ pub record Inverse (E D : String → ℕ → ℕ → ℕ → ℕ) : Type 0 where
   pub redo : (d : String) (i b x : ℕ) → IsBlock b → IsBlock x → E d i b (D d i b x) ≡ x
 
 -- a layer with its inverse, one way
-record Undoes (f g : ℕ → DiBlock → DiBlock) : Type 0 where
-  fits : (i : ℕ) (d : DiBlock) → Blocks d → Blocks (f i d)
+pub record Undoes (f g : ℕ → DiBlock → DiBlock) : Type 0 where
+  pub fits : (i : ℕ) (d : DiBlock) → Blocks d → Blocks (f i d)
   back : (i : ℕ) (d : DiBlock) → Blocks d → g i (f i d) ≡ d
 
 abbrev pub sandwich : (A M : ℕ → DiBlock → DiBlock) (K : DiBlock → ℕ → DiBlock → DiBlock) (C B : ℕ → DiBlock → DiBlock) (s t : ℕ → List DiBlock → DiBlock) → List DiBlock → DiBlock → List DiBlock × DiBlock
@@ -78,24 +78,34 @@ module _ (A A′ M M′ C C′ B B′ : ℕ → DiBlock → DiBlock) (K : DiBloc
       ∙ ap₂ from-xs (each-back (K st) (K st) (hK st okst .back) 1 xs okx) (hM .back n u oku)
       ∙ ap₂ {C = List DiBlock × DiBlock} (λ a b. (a, b)) (each-back A A′ (hA .back) 1 ds p) (add-add l (s n xs))
 
+-- the sums of blocks, and a padded tail, are blocks
+fits-both : (ds : List DiBlock) → AllBlocks ds → Fit (both ds)
+fits-both = map-fits (λ d. bitXor (d .left) (d .right)) (λ d p. fits-xor (d .left) (d .right) (p .0) (p .1))
+
+pub fits-xstar : (ds : List DiBlock) → AllBlocks ds → Blocks (xstar ds)
+fits-xstar ds p = (fits-Σα 1 (lefts ds) (map-fits (λ d. d .left) (λ d q. q .0) ds p), fits-Σα 2 (both ds) (fits-both ds p))
+
+pub fits-ystar : (ds : List DiBlock) → AllBlocks ds → Blocks (ystar ds)
+fits-ystar ds p = (fits-Σα 2 (both ds) (fits-both ds p), fits-Σα 1 (rights ds) (map-fits (λ d. d .right) (λ d q. q .1) ds p))
+
+pub fits-padded : (t : List ℕ) → Under 256 t → Blocks (padded t)
+fits-padded t p = fits-read (t ++ (0x80 ∷ replicate (31 - length t) 0)) (under-append t _ p (omega arith, under-zeros (31 - length t)))
+
 module _ {E D : String → ℕ → ℕ → ℕ → ℕ} (laws : Inverse E D) where
   fits-crossed : (l r : String) (n : ℕ) (d : DiBlock) → Blocks d → Blocks (crossed E l r n d)
   fits-crossed l r n d p = (laws .fits-E l n (d .right) (d .left) (p .1) (p .0), laws .fits-E r n (d .left) (d .right) (p .0) (p .1))
 
-  fits-both : (ds : List DiBlock) → AllBlocks ds → Fit (both ds)
-  fits-both = map-fits (λ d. bitXor (d .left) (d .right)) (λ d p. fits-xor (d .left) (d .right) (p .0) (p .1))
-
-  fits-xsums : (n : ℕ) (ds : List DiBlock) → AllBlocks ds → Blocks (xsums E n ds)
-  fits-xsums n ds p = fits-crossed "xL" "xR" n _ (fits-Σα 1 (lefts ds) (map-fits (λ d. d .left) (λ d q. q .0) ds p), fits-Σα 2 (both ds) (fits-both ds p))
+  pub fits-xsums : (n : ℕ) (ds : List DiBlock) → AllBlocks ds → Blocks (xsums E n ds)
+  fits-xsums n ds p = fits-crossed "xL" "xR" n _ (fits-xstar ds p)
 
   fits-ysums : (n : ℕ) (ds : List DiBlock) → AllBlocks ds → Blocks (ysums E n ds)
-  fits-ysums n ds p = fits-crossed "yL" "yR" n _ (fits-Σα 2 (both ds) (fits-both ds p), fits-Σα 1 (rights ds) (map-fits (λ d. d .right) (λ d q. q .1) ds p))
+  fits-ysums n ds p = fits-crossed "yL" "yR" n _ (fits-ystar ds p)
 
-  fits-chain : (s j : ℕ) → IsBlock s → IsBlock (chain E s j)
+  pub fits-chain : (s j : ℕ) → IsBlock s → IsBlock (chain E s j)
   fits-chain s zero p = p
   fits-chain s (suc j) p = laws .fits-E "s" 0 _ _ (omega arith) (fits-chain s j p)
 
-  the-mask : (st : DiBlock) → Blocks st → Undoes (mask E st) (mask E st)
+  pub the-mask : (st : DiBlock) → Blocks st → Undoes (mask E st) (mask E st)
   the-mask st p =
       record {
         fits = λ k d q.
@@ -111,7 +121,7 @@ module _ {E D : String → ℕ → ℕ → ℕ → ℕ} (laws : Inverse E D) whe
 module _ (F G : String → ℕ → ℕ → ℕ → ℕ)
     (fits-F : (d : String) (i b x : ℕ) → IsBlock b → IsBlock x → IsBlock (F d i b x))
     (back : (d : String) (i b x : ℕ) → IsBlock b → IsBlock x → G d i b (F d i b x) ≡ x) where
-  on-left : Undoes (top F) (top G)
+  pub on-left : Undoes (top F) (top G)
   on-left =
       record {
         fits = λ i d p. (fits-F "t" i (d .right) (d .left) (p .1) (p .0), p .1);
@@ -125,7 +135,7 @@ module _ (F G : String → ℕ → ℕ → ℕ → ℕ)
         back = λ i d p. ap (di (d .left)) (back "b" i (d .left) (d .right) (p .0) (p .1));
       }
 
-abbrev forth : (String → ℕ → ℕ → ℕ → ℕ) → String → String → ℕ → DiBlock → DiBlock
+abbrev pub forth : (String → ℕ → ℕ → ℕ → ℕ) → String → String → ℕ → DiBlock → DiBlock
 forth F a b n d = let s = F a n (d .right) (d .left) in di s (F b n s (d .right))
 
 abbrev gone : (String → ℕ → ℕ → ℕ → ℕ) → String → String → ℕ → DiBlock → DiBlock
@@ -134,7 +144,7 @@ gone F a b n d = let r = F b n (d .left) (d .right) in di (F a n r (d .left)) r
 module _ (F G : String → ℕ → ℕ → ℕ → ℕ)
     (fits-F : (d : String) (i b x : ℕ) → IsBlock b → IsBlock x → IsBlock (F d i b x))
     (back : (d : String) (i b x : ℕ) → IsBlock b → IsBlock x → G d i b (F d i b x) ≡ x) (a b : String) where
-  forth-gone : Undoes (forth F a b) (gone G a b)
+  pub forth-gone : Undoes (forth F a b) (gone G a b)
   forth-gone =
       record {
         fits = λ n d p.
@@ -173,7 +183,7 @@ module _ {E D : String → ℕ → ℕ → ℕ → ℕ} (laws : Inverse E D) whe
       (gone-forth D E (laws .fits-D) (laws .redo) "ts" "ss") (on-left D E (laws .fits-D) (laws .redo)) (the-mask laws) (fits-ysums laws)
       ds l p q
 
-  core-fits : (ds : List DiBlock) (l : DiBlock) → AllBlocks ds → Blocks l → AllBlocks (core E ds l .0) × Blocks (core E ds l .1)
+  pub core-fits : (ds : List DiBlock) (l : DiBlock) → AllBlocks ds → Blocks l → AllBlocks (core E ds l .0) × Blocks (core E ds l .1)
   core-fits =
       sandwich-fits (top E) (untop E D) (mix E) (unmix E D) (close E) (unclose E D) (bottom E) (unbottom E D) (mask E) (xsums E) (ysums E)
       (on-left E D (laws .fits-E) (laws .undo)) (forth-gone E D (laws .fits-E) (laws .undo) "ts" "ss")
@@ -187,10 +197,10 @@ module _ {E D : String → ℕ → ℕ → ℕ → ℕ} (laws : Inverse E D) whe
       (gone-forth D E (laws .fits-D) (laws .redo) "ts" "ss") (on-left D E (laws .fits-D) (laws .redo)) (the-mask laws) (fits-ysums laws)
       (fits-xsums laws)
 
-  fits-tailHash : (i : ℕ) (t : List ℕ) → Under 256 t → Blocks (tailHash E i t)
+  pub fits-tailHash : (i : ℕ) (t : List ℕ) → Under 256 t → Blocks (tailHash E i t)
   fits-tailHash i [] p = (omega arith, omega arith)
   fits-tailHash i (b ∷ bs) p =
-      let q : Blocks (padded (b ∷ bs)) = fits-read ((b ∷ bs) ++ (0x80 ∷ replicate (31 - length (b ∷ bs)) 0)) (under-append (b ∷ bs) _ p (omega arith, under-zeros (31 - length (b ∷ bs)))) in
+      let q : Blocks (padded (b ∷ bs)) = fits-padded (b ∷ bs) p in
       (laws .fits-E "p" i _ _ (q .1) (q .0), laws .fits-E "p" (i + 1) _ _ (q .1) (q .0))
 
 -- a core between two marks

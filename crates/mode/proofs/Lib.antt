@@ -4,3 +4,4 @@ pub mod Core
 pub mod Whole
 pub mod Passes
 pub mod Ends
+pub mod Agree

@@ -52,7 +52,7 @@ pub record Lawful (f g : ℕ → ℕ → ℕ → ℕ) : Type 0 where
   pub decenc : (h b x : ℕ) → IsBlock h → IsBlock b → IsBlock x → g h b (f h b x) ≡ x
   pub encdec : (h b x : ℕ) → IsBlock h → IsBlock b → IsBlock x → f h b (g h b x) ≡ x
 
-head-fits : (d i : ℕ) → IsBlock (headOf d i)
+pub head-fits : (d i : ℕ) → IsBlock (headOf d i)
 head-fits d i = omega arith
 
 module _ (f g : ℕ → ℕ → ℕ → ℕ) (laws : Lawful f g) where

@@ -1,0 +1,4 @@
+pub mod Shapes
+pub mod Memory
+pub mod Calls
+pub mod Runs

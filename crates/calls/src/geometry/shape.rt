@@ -1,0 +1,3 @@
+// Slots or page length outside the limits of a geometry.
+#[derive(Clone, Copy, PartialEq, Eq)]
+pub struct GeometryFault;
