@@ -1,24 +1,27 @@
-// Takes a commissioning sheet from a line of seven numbers, seals it into a page, opens the page again, and reports.
+// Takes a commissioning sheet from a line of seven numbers, puts it into a store, gets it again, and reports.
 mod intake;
 mod refusal;
 
 use block::diblock::Block;
+use calls::geometry::Geometry;
 use intake::sheet_of;
-use page::fault::SlotFault;
 use page::plain::lay_record;
 use record::fields::SheetFieldsPartialEq;
 use record::sheet::Sheet;
 use record::sheet::SheetRecord;
 use refusal::Refusal;
-use seal::seal_record;
-use seal::unseal;
 use skinny::Skinny;
 use skinny::SkinnyTweakable;
 use std::io;
 use std::io::BufRead;
 use std::io::BufReader;
+use store::store::Store;
 
-const SLOT: u8 = 1;
+const SLOTS: usize = 2;
+
+const PAGE: usize = 64;
+
+const SLOT: usize = 1;
 
 // Sixteen zero bytes.
 const KEY: Block = 0;
@@ -40,25 +43,19 @@ fn print_bytes(rt: &LibcRuntime, title: &str, bytes: &[u8]) -> io::Result<()> {
     println!(rt, "")
 }
 
-fn found(content: Result<Option<Sheet>, SlotFault>) -> Option<Sheet> {
-    match content {
-        Ok(sheet) => sheet,
-        Err(_) => None,
-    }
+// Puts the sheet into a fresh memory and gets it again; the memory is left for a look at its page.
+fn keep(store: &Store<Skinny>, memory: &mut [u8], sheet: &Sheet) -> Option<Sheet> {
+    let mut working = [0u8; PAGE];
+    store.form::<Sheet>(memory).ok()?;
+    store.put(memory, SLOT, sheet).ok()?;
+    store.get(memory, SLOT, &mut working).ok()?
 }
 
-// Seals the sheet into a page, opens the page again, and prints each step.
-fn report(rt: &LibcRuntime, sheet: &Sheet, page: &mut [u8; 64]) -> io::Result<()> {
-    let cipher = Skinny::new(KEY);
-    print_numbers(rt, "taken: ", sheet)?;
-    lay_record(page, SLOT, sheet);
-    print_bytes(rt, "plain page of slot 1:", page)?;
-    seal_record(&cipher, page, SLOT, sheet);
-    print_bytes(rt, "page sealed with SKINNY under a key of zeros:", page)?;
-    match found(unseal(&cipher, page, SLOT)) {
-        Some(found) => {
-            print_numbers(rt, "read back: ", &found)?;
-            let same = found.fields() == sheet.fields();
+fn print_kept(rt: &LibcRuntime, sheet: &Sheet, kept: Option<Sheet>) -> io::Result<()> {
+    match kept {
+        Some(kept) => {
+            print_numbers(rt, "read back: ", &kept)?;
+            let same = kept.fields() == sheet.fields();
             println!(
                 rt,
                 "{}",
@@ -71,6 +68,23 @@ fn report(rt: &LibcRuntime, sheet: &Sheet, page: &mut [u8; 64]) -> io::Result<()
         }
         None => println!(rt, "THE SHEET IS NOT THERE"),
     }
+}
+
+// Puts the sheet into a store, gets it again, and prints each step.
+fn report(rt: &LibcRuntime, sheet: &Sheet, geometry: Geometry) -> io::Result<()> {
+    let store = Store::new(Skinny::new(KEY), geometry);
+    let mut memory = [0u8; SLOTS * PAGE];
+    let mut page = [0u8; PAGE];
+    print_numbers(rt, "taken: ", sheet)?;
+    lay_record(&mut page, SLOT as u8, sheet);
+    print_bytes(rt, "plain page of slot 1:", &page)?;
+    let kept = keep(&store, &mut memory, sheet);
+    print_bytes(
+        rt,
+        "page sealed with SKINNY under a key of zeros:",
+        &memory[SLOT * PAGE..SLOTS * PAGE],
+    )?;
+    print_kept(rt, sheet, kept)
 }
 
 fn refuse(rt: &LibcRuntime, refusal: Refusal) -> io::Result<()> {
@@ -91,10 +105,10 @@ fn refuse(rt: &LibcRuntime, refusal: Refusal) -> io::Result<()> {
 
 fn commission(rt: &LibcRuntime, line: &[u8]) -> io::Result<()> {
     match sheet_of(line) {
-        Ok(sheet) => {
-            let mut page = [0u8; 64];
-            report(rt, &sheet, &mut page)
-        }
+        Ok(sheet) => match Geometry::new(SLOTS, PAGE) {
+            Ok(geometry) => report(rt, &sheet, geometry),
+            Err(_) => println!(rt, "THERE IS NO SUCH GEOMETRY"),
+        },
         Err(refusal) => refuse(rt, refusal),
     }
 }

@@ -1,9 +1,8 @@
-// All pages of a memory: looked at, taken from one cipher to another, and both under the guard of a working slice.
+// All pages of a memory: written, looked at, and taken from one cipher to another.
 ghost use mathlib.Core.Path.{_≡_};
 ghost use Prim.Native.Nat.{_<_};
 ghost use lib.ListN.{length, replicate};
 ghost use Rattle.calls.specs.Memory.{Sized};
-ghost use Rattle.calls.specs.Calls.{said};
 ghost use Rattle.store.specs.Looks.{Looked, Written, Moved, Rewritten};
 use crate::pages::move_page;
 use crate::pages::read_page;
@@ -55,23 +54,6 @@ pub fn move_all<C: TweakableCipher>(
     for slot in 0..geometry.slots() {
         move_page(from, to, geometry, memory, slot, working);
     }
-}
-
-// What the page of a slot says. The working slice is zero afterwards.
-pub fn read_guarded<C: TweakableCipher, R: Record>(
-    c: &C,
-    geometry: Geometry,
-    memory: &[u8],
-    slot: usize,
-    working: &mut [u8],
-) -> Result<Option<R>, SlotFault>
-    requires { ⌜ Sized geometry (now memory) ⌝ ∗ ⌜ slot < geometry .slots ⌝ ∗ ⌜ length (now working) ≡ geometry .page ⌝ }
-    ensures answer { λ r. ⌜ r ≡ said C·TweakableCipher R·Record geometry (now (c .entry)) (now (memory .entry)) slot ⌝ }
-    ensures wiped { λ _. ⌜ now (working .exit) ≡ replicate (geometry .page) 0 ⌝ }
-{
-    let guard = Wipe { bytes: working };
-    let content = read_page(c, geometry, memory, slot, guard.bytes)?;
-    Ok(content)
 }
 
 // Looks at every page, and then takes each from one cipher to another. The working slice is zero afterwards.

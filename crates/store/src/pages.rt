@@ -1,11 +1,12 @@
 // One page of a memory: written, opened, and taken from one cipher to another.
 ghost use mathlib.Core.Path.{_≡_};
 ghost use Prim.Native.Nat.{_<_};
-ghost use lib.ListN.{length};
+ghost use lib.ListN.{length, replicate};
 ghost use Rattle.std.specs.declared.option.Option.the-variants.{Some, None};
 ghost use Rattle.mode.specs.Permutes.{enciphered, deciphered};
 ghost use Rattle.calls.specs.Memory.{page, Sized, Only};
 ghost use Rattle.calls.specs.Calls.{sealed, said};
+use crate::wipe::Wipe;
 use calls::geometry::Geometry;
 use cipher::tweakable::TweakableCipher;
 use page::fault::SlotFault;
@@ -62,6 +63,23 @@ pub fn read_page<C: TweakableCipher, R: Record>(
     let end = geometry.end(slot);
     working.copy_from_slice(&memory[start..end]);
     unseal(c, working, slot as u8)
+}
+
+// What the page of a slot says. The working slice is zero afterwards.
+pub fn read_guarded<C: TweakableCipher, R: Record>(
+    c: &C,
+    geometry: Geometry,
+    memory: &[u8],
+    slot: usize,
+    working: &mut [u8],
+) -> Result<Option<R>, SlotFault>
+    requires { ⌜ Sized geometry (now memory) ⌝ ∗ ⌜ slot < geometry .slots ⌝ ∗ ⌜ length (now working) ≡ geometry .page ⌝ }
+    ensures answer { λ r. ⌜ r ≡ said C·TweakableCipher R·Record geometry (now (c .entry)) (now (memory .entry)) slot ⌝ }
+    ensures wiped { λ _. ⌜ now (working .exit) ≡ replicate (geometry .page) 0 ⌝ }
+{
+    let guard = Wipe { bytes: working };
+    let content = read_page(c, geometry, memory, slot, guard.bytes)?;
+    Ok(content)
 }
 
 // Takes the page of a slot from one cipher to another, through a working slice of a page's length.

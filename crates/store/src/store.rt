@@ -1,11 +1,15 @@
 ghost use mathlib.Core.Path.{_≡_};
+ghost use Prim.Native.Nat.{_<_, _≤_};
 ghost use lib.ListN.{length};
 ghost use Rattle.std.specs.declared.option.Option.the-variants.{Some, None};
+ghost use Rattle.std.specs.Results.{Cases};
+ghost use Rattle.calls.specs.declared.refusal.Refusal.the-variants.{Memory, Slot, Buffer};
+ghost use Rattle.calls.specs.Memory.{Sized};
 ghost use Rattle.calls.specs.Calls.{Formed, Put, Forgot, Got, Changed};
 ghost use Rattle.calls.specs.Runs.{Law};
 use crate::all::change_guarded;
-use crate::all::read_guarded;
 use crate::all::write_all;
+use crate::pages::read_guarded;
 use crate::pages::write_empty;
 use crate::pages::write_record;
 use calls::geometry::Geometry;
@@ -28,15 +32,43 @@ impl<C: TweakableCipher + Drop> Store<C> {
         Store { cipher, geometry }
     }
 
+    // The memory has as many bytes as the geometry says.
+    fn check_memory(&self, memory: &[u8]) -> Result<(), Refusal>
+        ensures { λ r. ⌜ Cases r (λ _. Sized (now (self .entry) .geometry) (now (memory .entry))) (λ e. (e ≡ Memory) × (Sized (now (self .entry) .geometry) (now (memory .entry)) → ⊥)) ⌝ }
+    {
+        if memory.len() != self.geometry.memory() {
+            return Err(Refusal::Memory);
+        }
+        Ok(())
+    }
+
+    // The slot is one of the geometry's.
+    fn check_slot(&self, slot: usize) -> Result<(), Refusal>
+        ensures { λ r. ⌜ Cases r (λ _. slot < now (self .entry) .geometry .slots) (λ e. (e ≡ Slot) × (now (self .entry) .geometry .slots ≤ slot)) ⌝ }
+    {
+        if slot >= self.geometry.slots() {
+            return Err(Refusal::Slot);
+        }
+        Ok(())
+    }
+
+    // The working buffer has room for a page.
+    fn check_working(&self, working: &[u8]) -> Result<(), Refusal>
+        ensures { λ r. ⌜ Cases r (λ _. now (self .entry) .geometry .page ≤ length (now (working .entry))) (λ e. (e ≡ Buffer) × (length (now (working .entry)) < now (self .entry) .geometry .page)) ⌝ }
+    {
+        if working.len() < self.geometry.page() {
+            return Err(Refusal::Buffer);
+        }
+        Ok(())
+    }
+
     // Writes an empty page for every slot. On a formed memory, whatever calls follow, the pages are those of the
     // slots' contents, and two memories are equal exactly where their contents are.
     pub fn form<R: Record>(&self, memory: &mut [u8]) -> Result<(), Refusal>
         ensures does { λ r. ⌜ Formed C·TweakableCipher R·Record (now (self .entry) .geometry) (now (self .entry) .cipher) (now (memory .entry)) (now (memory .exit)) r ⌝ }
         ensures law { λ _. ⌜ Law C·TweakableCipher R·Record ⌝ }
     {
-        if memory.len() != self.geometry.memory() {
-            return Err(Refusal::Memory);
-        }
+        self.check_memory(memory)?;
         write_all::<C, R>(&self.cipher, self.geometry, memory);
         Ok(())
     }
@@ -45,12 +77,8 @@ impl<C: TweakableCipher + Drop> Store<C> {
     pub fn put<R: Record>(&self, memory: &mut [u8], slot: usize, content: &R) -> Result<(), Refusal>
         ensures { λ r. ⌜ Put C·TweakableCipher R·Record (now (self .entry) .geometry) (now (self .entry) .cipher) (now (memory .entry)) slot (Some (now (content .entry))) (now (memory .exit)) r ⌝ }
     {
-        if memory.len() != self.geometry.memory() {
-            return Err(Refusal::Memory);
-        }
-        if slot >= self.geometry.slots() {
-            return Err(Refusal::Slot);
-        }
+        self.check_memory(memory)?;
+        self.check_slot(slot)?;
         write_record(&self.cipher, self.geometry, memory, slot, content);
         Ok(())
     }
@@ -64,16 +92,11 @@ impl<C: TweakableCipher + Drop> Store<C> {
     ) -> Result<Option<R>, Refusal>
         ensures { λ r. ⌜ Got C·TweakableCipher R·Record (now (self .entry) .geometry) (now (self .entry) .cipher) (now (memory .entry)) slot (now (working .entry)) (now (working .exit)) r ⌝ }
     {
-        if memory.len() != self.geometry.memory() {
-            return Err(Refusal::Memory);
-        }
-        if slot >= self.geometry.slots() {
-            return Err(Refusal::Slot);
-        }
+        self.check_memory(memory)?;
+        // The slot is judged before the working buffer.
+        self.check_slot(slot)?;
+        self.check_working(working)?;
         let page = self.geometry.page();
-        if working.len() < page {
-            return Err(Refusal::Buffer);
-        }
         let content = read_guarded(
             &self.cipher,
             self.geometry,
@@ -89,12 +112,8 @@ impl<C: TweakableCipher + Drop> Store<C> {
         ensures does { λ r. ⌜ Put C·TweakableCipher R·Record (now (self .entry) .geometry) (now (self .entry) .cipher) (now (memory .entry)) slot None (now (memory .exit)) r ⌝ }
         ensures forgot { λ r. ⌜ Forgot C·TweakableCipher R·Record (now (self .entry) .geometry) (now (self .entry) .cipher) (now (memory .entry)) slot (now (memory .exit)) r ⌝ }
     {
-        if memory.len() != self.geometry.memory() {
-            return Err(Refusal::Memory);
-        }
-        if slot >= self.geometry.slots() {
-            return Err(Refusal::Slot);
-        }
+        self.check_memory(memory)?;
+        self.check_slot(slot)?;
         write_empty::<C, R>(&self.cipher, self.geometry, memory, slot);
         Ok(())
     }
@@ -110,13 +129,9 @@ impl<C: TweakableCipher + Drop> Store<C> {
         ensures does { λ r. ⌜ Changed C·TweakableCipher R·Record (now (self .entry) .geometry) (now (self .entry) .cipher) (now (memory .entry)) to (now (working .entry)) (now (self .exit) .cipher) (now (memory .exit)) (now (working .exit)) r ⌝ }
         ensures keeps { λ _. ⌜ now (self .exit) .geometry ≡ now (self .entry) .geometry ⌝ }
     {
-        if memory.len() != self.geometry.memory() {
-            return Err(Refusal::Memory);
-        }
+        self.check_memory(memory)?;
+        self.check_working(working)?;
         let page = self.geometry.page();
-        if working.len() < page {
-            return Err(Refusal::Buffer);
-        }
         change_guarded::<C, R>(
             &self.cipher,
             &to,

@@ -1,3 +1,4 @@
+use borrow.Author.Needs.{needs}
 use native.Mathlib.Omega.{arith}
 use Rattle.calls.proofs.Placing.{same-only}
 use Rattle.store.proofs.store.Store.clear.Needs as need
@@ -7,7 +8,7 @@ returns g c =
     let geo = c .args .self .now .geometry in
     let m = c .args .memory .now in
     record {
-      does = (omega arith, omega arith, c .write-empty .ensures);
+      does = search needs;
       forgot = λ x x′ alike cleared.
-          same-only (geo .slots) (geo .page) (c .args .slot) m (c .write-empty .last .memory) x x′ _ (omega (arith, geo .ok .2)) (omega arith) (cleared .0) alike (c .write-empty .ensures) (cleared .2);
+          same-only (geo .slots) (geo .page) (c .args .slot) m (c .write-empty .last .memory) x x′ _ (omega (arith, geo .ok .2)) (search needs) (cleared .0) alike (c .write-empty .ensures) (cleared .2);
     }

@@ -1,5 +1,4 @@
-use mathlib.Core.Path.{refl}
-use native.Mathlib.Omega.{arith}
+use borrow.Author.Needs.{needs}
 use Rattle.calls.proofs.Plain.{Laws}
 use Rattle.calls.proofs.Standing.{law}
 use Rattle.store.proofs.store.Store.form.Given as given
@@ -18,8 +17,8 @@ laws g =
       writeback = kind .writeback;
     }
 
-pub returns-then-memory : need.returns-then-memory
-returns-then-memory g c = record { does = (refl, λ e. omega arith); law = law (laws g) }
+pub returns-in-Break-check-memory : need.returns-in-Break-check-memory
+returns-in-Break-check-memory g c = record { does = search needs; law = law (laws g) }
 
 pub returns : need.returns
-returns g c = record { does = (omega arith, c .write-all .ensures .0, c .write-all .ensures .1); law = law (laws g) }
+returns g c = record { does = (search needs, c .write-all .ensures .0, c .write-all .ensures .1); law = law (laws g) }
