@@ -1,3 +1,4 @@
 pub mod Placing
 pub mod Plain
+pub mod Refusing
 pub mod Standing

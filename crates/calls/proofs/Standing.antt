@@ -26,6 +26,7 @@ use Rattle.calls.specs.Memory.{page, Sized, Only}
 use Rattle.calls.specs.Calls.{sealed, said, Why, WhyAll, Formed, Put, Got, Changed}
 use Rattle.calls.specs.Runs.{Call, form, put, get, clear, change, handed, left, Does, Ran, begins, goes-on, elsewhere, after, content, refusal, Sound, Held, Holds, Same, Determined, Law}
 use Rattle.calls.proofs.Placing.{same-pages}
+use Rattle.calls.proofs.Refusing.{numbered}
 use Rattle.calls.proofs.Plain.{Laws, tells, plain-message}
 
 -- each page of m is that of its slot's content
@@ -193,4 +194,4 @@ module _ {C R : Type 0} {𝒸 : cipher.Ghosts C} {𝓇 : kind.Ghosts R} (laws : 
       )
 
   pub law : Law 𝒸 𝓇
-  law = record { holds = holds; determined = determined }
+  law = record { numbered = numbered 𝒸 𝓇; holds = holds; determined = determined }

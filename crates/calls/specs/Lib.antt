@@ -1,4 +1,5 @@
 pub mod Shapes
 pub mod Memory
 pub mod Calls
+pub mod Refused
 pub mod Runs

@@ -15,7 +15,8 @@ use Rattle.record.specs.declared.kind.Record as kind
 use Rattle.calls.specs.declared.geometry.Geometry.{Geometry}
 use Rattle.calls.specs.declared.refusal.Refusal.{Refusal}
 use Rattle.calls.specs.Memory.{page, Sized}
-use Rattle.calls.specs.Calls.{numbers, sealed, Formed, Put, Got, Changed}
+use Rattle.calls.specs.Calls.{sealed, Formed, Put, Got, Changed}
+use Rattle.calls.specs.Refused.{refusedBy, Numbered}
 
 -- a call: the memory handed and left, the working buffer before and after, the arguments, the answer
 pub data Call (C R : Type 0) : Type 0 where
@@ -71,11 +72,7 @@ abbrev pub content : {C R : Type 0} → List (Call C R) → ℕ → Option R
 content [] k = None
 content (x ∷ calls) k = after x k (content calls k)
 
--- the numbers of a refusal, or none
-abbrev pub refusedBy : {T : Type 0} → Result T Refusal → List ℕ
-refusedBy (Ok x) = []
-refusedBy (Err e) = numbers e
-
+-- the numbers that a call was refused with, or none
 abbrev pub refusal : {C R : Type 0} → Call C R → List ℕ
 refusal (form m m′ a) = refusedBy a
 refusal (put m m′ slot r a) = refusedBy a
@@ -113,5 +110,6 @@ Determined {C} {R} 𝒸 𝓇 =
     × (((k : ℕ) → k < g .slots → content calls₁ k ≡ content calls₂ k) → m₁ ≡ m₂)
 
 pub record Law {C R : Type 0} (𝒸 : cipher.Ghosts C) (𝓇 : kind.Ghosts R) : Type 0 where
+  pub numbered : (g : Geometry) (c : C) (m : List ℕ) → Numbered 𝒸 𝓇 g c m
   pub holds : Holds 𝒸 𝓇
   pub determined : Determined 𝒸 𝓇
