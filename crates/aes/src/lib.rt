@@ -1,3 +1,4 @@
+#![tactic(auto)]
 // AES-128 of FIPS 197, with its round keys expanded once, by tables of 32-bit words.
 ghost use Rattle.std.specs.Prelude.{◌≡◌, map};
 ghost use Rattle.aes.specs.Field.{IsInverse};

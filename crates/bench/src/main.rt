@@ -1,3 +1,4 @@
+#![tactic(auto)]
 // The bench program: each line of the input is answered by a line of the output, as soon as it has come.
 ghost use Rattle.std.specs.Prelude.{◌≤◌, length, IfSome, IfOk};
 

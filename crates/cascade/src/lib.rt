@@ -1,3 +1,4 @@
+#![tactic(auto)]
 // A tweakable cipher from AES-128: three encryptions under one key, with the head and the body added in between.
 ghost use Rattle.std.specs.Prelude.{◌≡◌};
 ghost use Rattle.cascade.specs.Cascade.{cascade_encrypted, cascade_decrypted};

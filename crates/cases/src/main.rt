@@ -1,3 +1,4 @@
+#![tactic(auto)]
 // Executes the mode on messages of many lengths under the bench cipher, and the cases beside the proved ones.
 mod table;
 

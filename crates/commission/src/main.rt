@@ -1,3 +1,4 @@
+#![tactic(auto)]
 // Takes a commissioning sheet from a line of seven numbers, puts it into a store, gets it again, and reports.
 mod intake;
 mod refusal;

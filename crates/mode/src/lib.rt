@@ -1,3 +1,4 @@
+#![tactic(auto)]
 // The wide-block mode by its definitions, and the law that it takes the byte strings of each admitted length to
 // each other, one to one. The code that computes it is the crate `zcz`.
 ghost use Rattle.mode.specs.Permutes.{Permutes};

@@ -1,3 +1,4 @@
+#![tactic(auto)]
 // Kinds of records: what is kept in a page, in a fixed number of bytes.
 pub mod fault;
 pub mod fields;

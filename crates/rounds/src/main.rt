@@ -1,3 +1,4 @@
+#![tactic(auto)]
 // Runs the calls of the store under every cipher, and checks what each answers and leaves.
 mod board;
 mod check;

@@ -1,3 +1,4 @@
+#![tactic(auto)]
 // Sealed pages: plain pages enciphered in place, written once for all ciphers and all kinds of records.
 ghost use Rattle.std.specs.Prelude.{◌≡◌, ◌≤◌, length, Some, None, Ok};
 ghost use Rattle.mode.specs.Permutes.{enciphered, deciphered};

@@ -1,3 +1,4 @@
+#![tactic(auto)]
 // SKINNY-128-384 as a tweakable cipher: 56 rounds on blocks of 16 cells of a byte.
 ghost use Rattle.std.specs.Prelude.{◌≡◌, map};
 ghost use Rattle.skinny.specs.Skinny.{cells_of, block_of, keys_of_rounds, encrypted_cells, decrypted_cells, encrypt_block, decrypt_block};

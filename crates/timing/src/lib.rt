@@ -1,3 +1,4 @@
+#![tactic(auto)]
 // What the benchmark times, exported for C: each call is repeated on its own result.
 ghost use Rattle.std.specs.Prelude.{◌≡◌, length, if◌then◌else◌, ◌==◌, nat_eq};
 ghost use Rattle.block.specs.Blocks.{block as block_of};

@@ -1,3 +1,4 @@
+#![tactic(auto)]
 // Runs the published vectors of both ciphers, in both directions. The same vectors with their sources are in
 // data/published-vectors.txt.
 use aes::Aes;

@@ -1,3 +1,4 @@
+#![tactic(auto)]
 // The wide-block mode ZCZ with its extension for messages that end in a partial di-block, written once for all
 // tweakable ciphers. It works in place over the caller's bytes.
 ghost use Rattle.std.specs.Prelude.{◌≡◌, length};

@@ -6,4 +6,4 @@ use Rattle.block.proofs.diblock.DiBlock.read.Goals as goal
 pub returns : goal.returns
 returns c =
     let m = c.args.m.now in
-    ap₂ di c.read-block.ensures (c.read-block-2.ensures ∙ ap block (sym (drop-drop 16 (32 * c.args.i) m)))
+    ap₂ di c.read_block.ensures (c.read_block-2.ensures ∙ ap block (sym (drop-drop 16 (32 * c.args.i) m)))
