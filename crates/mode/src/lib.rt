@@ -7,7 +7,7 @@ use cipher::tweakable::TweakableCipher;
 
 // For every byte string of an admitted length exactly one message enciphers to it, and deciphering gives that one.
 pub fn permutes<C: TweakableCipher>(c: &C) -> u8
-    ensures { Permutes (encrypted c.now) (decrypted c.now) }
+    ensures { Permutes (C.encrypted c.now) (C.decrypted c.now) }
 {
     let _ = c;
     0

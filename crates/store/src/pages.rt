@@ -87,7 +87,7 @@ pub fn move_page<C: TweakableCipher>(
     working: &mut [u8],
 )
     requires { (Sized geometry memory.old) × ((slot < geometry.slots) × (length working.old ≡ geometry.page)) }
-    ensures { Only geometry.page slot memory.old memory.new (enciphered (encrypted to.now) (deciphered (encrypted from.now) (decrypted from.now) (page geometry.page slot memory.old))) }
+    ensures { Only geometry.page slot memory.old memory.new (enciphered (C.encrypted to.now) (deciphered (C.encrypted from.now) (C.decrypted from.now) (page geometry.page slot memory.old))) }
 {
     let start = geometry.start(slot);
     let end = geometry.end(slot);

@@ -18,7 +18,7 @@ use skinny::Skinny;
 use zcz::{decipher, encipher};
 
 fn encrypt_times<C: TweakableCipher>(c: &C, tweak: Tweak, block: Block, n: usize) -> Block
-    ensures { result ≡ iterated n (encrypted c.now tweak.head tweak.body) block }
+    ensures { result ≡ iterated n (C.encrypted c.now tweak.head tweak.body) block }
 {
     let mut x = block;
     for _i in 0..n {
@@ -28,7 +28,7 @@ fn encrypt_times<C: TweakableCipher>(c: &C, tweak: Tweak, block: Block, n: usize
 }
 
 fn decrypt_times<C: TweakableCipher>(c: &C, tweak: Tweak, block: Block, n: usize) -> Block
-    ensures { result ≡ iterated n (decrypted c.now tweak.head tweak.body) block }
+    ensures { result ≡ iterated n (C.decrypted c.now tweak.head tweak.body) block }
 {
     let mut x = block;
     for _i in 0..n {
@@ -40,7 +40,7 @@ fn decrypt_times<C: TweakableCipher>(c: &C, tweak: Tweak, block: Block, n: usize
 // The block of 64 bytes, after a key, a head and a body, encrypted n times.
 fn encrypt_work<C: TweakableCipher>(c: &C, work: &mut [u8], n: usize)
     requires { length work.old ≡ 64 }
-    ensures { work.new ≡ turned (encrypted c.now) n work.old }
+    ensures { work.new ≡ turned (C.encrypted c.now) n work.old }
 {
     let head = DiBlock::read(work, 0).right;
     let rest = DiBlock::read(work, 1);
@@ -59,7 +59,7 @@ fn encrypt_work<C: TweakableCipher>(c: &C, work: &mut [u8], n: usize)
 // The block of 64 bytes, after a key, a head and a body, decrypted n times.
 fn decrypt_work<C: TweakableCipher>(c: &C, work: &mut [u8], n: usize)
     requires { length work.old ≡ 64 }
-    ensures { work.new ≡ turned (decrypted c.now) n work.old }
+    ensures { work.new ≡ turned (C.decrypted c.now) n work.old }
 {
     let head = DiBlock::read(work, 0).right;
     let rest = DiBlock::read(work, 1);
@@ -76,7 +76,7 @@ fn decrypt_work<C: TweakableCipher>(c: &C, work: &mut [u8], n: usize)
 }
 
 fn encipher_times<C: TweakableCipher>(c: &C, message: &mut [u8], n: usize)
-    ensures { message.new ≡ iterated n (enciphered (encrypted c.now)) message.old }
+    ensures { message.new ≡ iterated n (enciphered (C.encrypted c.now)) message.old }
 {
     for _i in 0..n {
         let _ = encipher(c, message);
@@ -84,7 +84,7 @@ fn encipher_times<C: TweakableCipher>(c: &C, message: &mut [u8], n: usize)
 }
 
 fn decipher_times<C: TweakableCipher>(c: &C, message: &mut [u8], n: usize)
-    ensures { message.new ≡ iterated n (deciphered (encrypted c.now) (decrypted c.now)) message.old }
+    ensures { message.new ≡ iterated n (deciphered (C.encrypted c.now) (C.decrypted c.now)) message.old }
 {
     for _i in 0..n {
         let _ = decipher(c, message);

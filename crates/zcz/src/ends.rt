@@ -10,7 +10,7 @@ use cipher::tweakable::TweakableCipher;
 
 // X_L and X_R, from X_L* and X_R*.
 pub fn cross_x<C: TweakableCipher>(c: &C, n: u32, s: DiBlock) -> DiBlock
-    ensures { result ≡ crossed (tweaked (encrypted c.now)) "xL" "xR" n s }
+    ensures { result ≡ crossed (tweaked (C.encrypted c.now)) "xL" "xR" n s }
 {
     DiBlock {
         left: c.encrypt(tweak("xL", n, s.right), s.left),
@@ -20,7 +20,7 @@ pub fn cross_x<C: TweakableCipher>(c: &C, n: u32, s: DiBlock) -> DiBlock
 
 // Y_L and Y_R, from Y_L* and Y_R*.
 pub fn cross_y<C: TweakableCipher>(c: &C, n: u32, s: DiBlock) -> DiBlock
-    ensures { result ≡ crossed (tweaked (encrypted c.now)) "yL" "yR" n s }
+    ensures { result ≡ crossed (tweaked (C.encrypted c.now)) "yL" "yR" n s }
 {
     DiBlock {
         left: c.encrypt(tweak("yL", n, s.right), s.left),
@@ -30,7 +30,7 @@ pub fn cross_y<C: TweakableCipher>(c: &C, n: u32, s: DiBlock) -> DiBlock
 
 // S and T.
 pub fn mix<C: TweakableCipher>(c: &C, n: u32, d: DiBlock) -> DiBlock
-    ensures { result ≡ mixOf (tweaked (encrypted c.now)) n d }
+    ensures { result ≡ mixOf (tweaked (C.encrypted c.now)) n d }
 {
     let s = c.encrypt(tweak("ts", n, d.right), d.left);
     DiBlock {
@@ -40,7 +40,7 @@ pub fn mix<C: TweakableCipher>(c: &C, n: u32, d: DiBlock) -> DiBlock
 }
 
 pub fn unmix<C: TweakableCipher>(c: &C, n: u32, st: DiBlock) -> DiBlock
-    ensures { result ≡ unmixOf (tweaked (encrypted c.now)) (tweaked (decrypted c.now)) n st }
+    ensures { result ≡ unmixOf (tweaked (C.encrypted c.now)) (tweaked (C.decrypted c.now)) n st }
 {
     let right = c.decrypt(tweak("ss", n, st.left), st.right);
     DiBlock {
@@ -51,7 +51,7 @@ pub fn unmix<C: TweakableCipher>(c: &C, n: u32, st: DiBlock) -> DiBlock
 
 // C_L and C_R, from S and T.
 pub fn close<C: TweakableCipher>(c: &C, n: u32, st: DiBlock) -> DiBlock
-    ensures { result ≡ closeOf (tweaked (encrypted c.now)) n st }
+    ensures { result ≡ closeOf (tweaked (C.encrypted c.now)) n st }
 {
     let left = c.encrypt(tweak("cs", n, st.right), st.left);
     DiBlock {
@@ -61,7 +61,7 @@ pub fn close<C: TweakableCipher>(c: &C, n: u32, st: DiBlock) -> DiBlock
 }
 
 pub fn unclose<C: TweakableCipher>(c: &C, n: u32, d: DiBlock) -> DiBlock
-    ensures { result ≡ uncloseOf (tweaked (encrypted c.now)) (tweaked (decrypted c.now)) n d }
+    ensures { result ≡ uncloseOf (tweaked (C.encrypted c.now)) (tweaked (C.decrypted c.now)) n d }
 {
     let t = c.decrypt(tweak("bs", n, d.left), d.right);
     DiBlock {
@@ -73,7 +73,7 @@ pub fn unclose<C: TweakableCipher>(c: &C, n: u32, d: DiBlock) -> DiBlock
 // H(i; u, v), two blocks from two.
 pub fn hash<C: TweakableCipher>(c: &C, i: u32, d: DiBlock) -> DiBlock
     requires { i < 2 ^ 16 }
-    ensures { result ≡ hashOf (tweaked (encrypted c.now)) i d }
+    ensures { result ≡ hashOf (tweaked (C.encrypted c.now)) i d }
 {
     DiBlock {
         left: c.encrypt(tweak("p", i, d.right), d.left),

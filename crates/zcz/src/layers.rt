@@ -43,7 +43,7 @@ fn more_y(sums: DiBlock, y: DiBlock) -> DiBlock
 }
 
 fn top<C: TweakableCipher>(c: &C, index: u32, d: DiBlock) -> DiBlock
-    ensures { result ≡ top_of (tweaked (encrypted c.now)) index d }
+    ensures { result ≡ top_of (tweaked (C.encrypted c.now)) index d }
 {
     DiBlock {
         left: c.encrypt(tweak("t", index, d.right), d.left),
@@ -52,7 +52,7 @@ fn top<C: TweakableCipher>(c: &C, index: u32, d: DiBlock) -> DiBlock
 }
 
 fn untop<C: TweakableCipher>(c: &C, index: u32, d: DiBlock) -> DiBlock
-    ensures { result ≡ untopOf (tweaked (encrypted c.now)) (tweaked (decrypted c.now)) index d }
+    ensures { result ≡ untopOf (tweaked (C.encrypted c.now)) (tweaked (C.decrypted c.now)) index d }
 {
     DiBlock {
         left: c.decrypt(tweak("t", index, d.right), d.left),
@@ -61,7 +61,7 @@ fn untop<C: TweakableCipher>(c: &C, index: u32, d: DiBlock) -> DiBlock
 }
 
 fn bottom<C: TweakableCipher>(c: &C, index: u32, d: DiBlock) -> DiBlock
-    ensures { result ≡ bottomOf (tweaked (encrypted c.now)) index d }
+    ensures { result ≡ bottomOf (tweaked (C.encrypted c.now)) index d }
 {
     DiBlock {
         left: d.left,
@@ -70,7 +70,7 @@ fn bottom<C: TweakableCipher>(c: &C, index: u32, d: DiBlock) -> DiBlock
 }
 
 fn unbottom<C: TweakableCipher>(c: &C, index: u32, d: DiBlock) -> DiBlock
-    ensures { result ≡ unbottomOf (tweaked (encrypted c.now)) (tweaked (decrypted c.now)) index d }
+    ensures { result ≡ unbottomOf (tweaked (C.encrypted c.now)) (tweaked (C.decrypted c.now)) index d }
 {
     DiBlock {
         left: d.left,
@@ -80,7 +80,7 @@ fn unbottom<C: TweakableCipher>(c: &C, index: u32, d: DiBlock) -> DiBlock
 
 // The mask of a di-block, with T and S_j. Masked twice, it is as it was.
 fn masked<C: TweakableCipher>(c: &C, t: Block, s: Block, index: u32, d: DiBlock) -> DiBlock
-    ensures { result ≡ maskedOf (tweaked (encrypted c.now)) t s index d }
+    ensures { result ≡ maskedOf (tweaked (C.encrypted c.now)) t s index d }
 {
     let z = c.encrypt(tweak("c", index, t), s);
     DiBlock {
@@ -92,7 +92,7 @@ fn masked<C: TweakableCipher>(c: &C, t: Block, s: Block, index: u32, d: DiBlock)
 // S_j for place i, from the one for the place before: a new one at every 128th place.
 fn next_link<C: TweakableCipher>(c: &C, s: Block, i: usize) -> Block
     requires { i < 2 ^ 16 }
-    ensures { result ≡ link (tweaked (encrypted c.now)) i s }
+    ensures { result ≡ link (tweaked (C.encrypted c.now)) i s }
 {
     if i % 128 == 0 {
         c.encrypt(tweak("s", 0, (i / 128 + 1) as u128), s)
@@ -104,8 +104,8 @@ fn next_link<C: TweakableCipher>(c: &C, s: Block, i: usize) -> Block
 // One turn of the top layer, at place i.
 fn top_at<C: TweakableCipher>(c: &C, m: &mut [u8], i: usize, sums: DiBlock) -> DiBlock
     requires { (32 * i + 32 ≤ length m.old) × (i < 2 ^ 16) }
-    ensures wrote { m.new ≡ put_at m.old i (top_of (tweaked (encrypted c.now)) (suc i) (diAt m.old i)) }
-    ensures sums { result ≡ xmore sums (top_of (tweaked (encrypted c.now)) (suc i) (diAt m.old i)) }
+    ensures wrote { m.new ≡ put_at m.old i (top_of (tweaked (C.encrypted c.now)) (suc i) (diAt m.old i)) }
+    ensures sums { result ≡ xmore sums (top_of (tweaked (C.encrypted c.now)) (suc i) (diAt m.old i)) }
 {
     let x = top(c, i as u32 + 1, DiBlock::read(m, i));
     x.write(m, i);
@@ -115,8 +115,8 @@ fn top_at<C: TweakableCipher>(c: &C, m: &mut [u8], i: usize, sums: DiBlock) -> D
 // Each L_i becomes X_i over the first n di-blocks; the answer is X_L* and X_R*.
 pub fn top_layer<C: TweakableCipher>(c: &C, m: &mut [u8], n: usize) -> DiBlock
     requires { (32 * n ≤ length m.old) × (n < 2 ^ 16) }
-    ensures wrote { m.new ≡ passed (top_of (tweaked (encrypted c.now))) n m.old }
-    ensures sums { result ≡ xstar (each (top_of (tweaked (encrypted c.now))) 1 (reads n m.old)) }
+    ensures wrote { m.new ≡ passed (top_of (tweaked (C.encrypted c.now))) n m.old }
+    ensures sums { result ≡ xstar (each (top_of (tweaked (C.encrypted c.now))) 1 (reads n m.old)) }
 {
     let mut sums = DiBlock { left: 0, right: 0 };
     for i in 0..n {
@@ -135,8 +135,8 @@ fn mask_at<C: TweakableCipher>(
     sums: DiBlock,
 ) -> DiBlock
     requires { (32 * i + 32 ≤ length m.old) × (i < 2 ^ 16) }
-    ensures wrote { m.new ≡ put_at m.old i (then_on (maskedOf (tweaked (encrypted c.now)) t s) (bottomOf (tweaked (encrypted c.now))) (suc i) (diAt m.old i)) }
-    ensures sums { result ≡ ymore sums (maskedOf (tweaked (encrypted c.now)) t s (suc i) (diAt m.old i)) }
+    ensures wrote { m.new ≡ put_at m.old i (then_on (maskedOf (tweaked (C.encrypted c.now)) t s) (bottomOf (tweaked (C.encrypted c.now))) (suc i) (diAt m.old i)) }
+    ensures sums { result ≡ ymore sums (maskedOf (tweaked (C.encrypted c.now)) t s (suc i) (diAt m.old i)) }
 {
     let k = i as u32 + 1;
     let y = masked(c, t, s, k, DiBlock::read(m, i));
@@ -147,8 +147,8 @@ fn mask_at<C: TweakableCipher>(
 // The mask and the bottom layer over the first n di-blocks, with S and T; the answer is Y_L* and Y_R*.
 pub fn mask_layer<C: TweakableCipher>(c: &C, m: &mut [u8], n: usize, st: DiBlock) -> DiBlock
     requires { (32 * n ≤ length m.old) × (n < 2 ^ 16) }
-    ensures wrote { m.new ≡ passed (then_on (mask (tweaked (encrypted c.now)) st) (bottomOf (tweaked (encrypted c.now)))) n m.old }
-    ensures sums { result ≡ ystar (each (mask (tweaked (encrypted c.now)) st) 1 (reads n m.old)) }
+    ensures wrote { m.new ≡ passed (then_on (mask (tweaked (C.encrypted c.now)) st) (bottomOf (tweaked (C.encrypted c.now)))) n m.old }
+    ensures sums { result ≡ ystar (each (mask (tweaked (C.encrypted c.now)) st) 1 (reads n m.old)) }
 {
     let mut s = st.left;
     let mut sums = DiBlock { left: 0, right: 0 };
@@ -162,8 +162,8 @@ pub fn mask_layer<C: TweakableCipher>(c: &C, m: &mut [u8], n: usize, st: DiBlock
 // One turn of the bottom layer taken back, at place i.
 fn unbottom_at<C: TweakableCipher>(c: &C, m: &mut [u8], i: usize, sums: DiBlock) -> DiBlock
     requires { (32 * i + 32 ≤ length m.old) × (i < 2 ^ 16) }
-    ensures wrote { m.new ≡ put_at m.old i (unbottomOf (tweaked (encrypted c.now)) (tweaked (decrypted c.now)) (suc i) (diAt m.old i)) }
-    ensures sums { result ≡ ymore sums (unbottomOf (tweaked (encrypted c.now)) (tweaked (decrypted c.now)) (suc i) (diAt m.old i)) }
+    ensures wrote { m.new ≡ put_at m.old i (unbottomOf (tweaked (C.encrypted c.now)) (tweaked (C.decrypted c.now)) (suc i) (diAt m.old i)) }
+    ensures sums { result ≡ ymore sums (unbottomOf (tweaked (C.encrypted c.now)) (tweaked (C.decrypted c.now)) (suc i) (diAt m.old i)) }
 {
     let y = unbottom(c, i as u32 + 1, DiBlock::read(m, i));
     y.write(m, i);
@@ -173,8 +173,8 @@ fn unbottom_at<C: TweakableCipher>(c: &C, m: &mut [u8], i: usize, sums: DiBlock)
 // Each R'_k becomes Y_k over the first n di-blocks; the answer is Y_L* and Y_R*.
 pub fn unbottom_layer<C: TweakableCipher>(c: &C, m: &mut [u8], n: usize) -> DiBlock
     requires { (32 * n ≤ length m.old) × (n < 2 ^ 16) }
-    ensures wrote { m.new ≡ passed (unbottomOf (tweaked (encrypted c.now)) (tweaked (decrypted c.now))) n m.old }
-    ensures sums { result ≡ ystar (each (unbottomOf (tweaked (encrypted c.now)) (tweaked (decrypted c.now))) 1 (reads n m.old)) }
+    ensures wrote { m.new ≡ passed (unbottomOf (tweaked (C.encrypted c.now)) (tweaked (C.decrypted c.now))) n m.old }
+    ensures sums { result ≡ ystar (each (unbottomOf (tweaked (C.encrypted c.now)) (tweaked (C.decrypted c.now))) 1 (reads n m.old)) }
 {
     let mut sums = DiBlock { left: 0, right: 0 };
     for i in 0..n {
@@ -193,8 +193,8 @@ fn unmask_at<C: TweakableCipher>(
     sums: DiBlock,
 ) -> DiBlock
     requires { (32 * i + 32 ≤ length m.old) × (i < 2 ^ 16) }
-    ensures wrote { m.new ≡ put_at m.old i (then_on (maskedOf (tweaked (encrypted c.now)) t s) (untopOf (tweaked (encrypted c.now)) (tweaked (decrypted c.now))) (suc i) (diAt m.old i)) }
-    ensures sums { result ≡ xmore sums (maskedOf (tweaked (encrypted c.now)) t s (suc i) (diAt m.old i)) }
+    ensures wrote { m.new ≡ put_at m.old i (then_on (maskedOf (tweaked (C.encrypted c.now)) t s) (untopOf (tweaked (C.encrypted c.now)) (tweaked (C.decrypted c.now))) (suc i) (diAt m.old i)) }
+    ensures sums { result ≡ xmore sums (maskedOf (tweaked (C.encrypted c.now)) t s (suc i) (diAt m.old i)) }
 {
     let k = i as u32 + 1;
     let x = masked(c, t, s, k, DiBlock::read(m, i));
@@ -205,8 +205,8 @@ fn unmask_at<C: TweakableCipher>(
 // The mask and the top layer taken back over the first n di-blocks, with S and T; the answer is X_L* and X_R*.
 pub fn unmask_layer<C: TweakableCipher>(c: &C, m: &mut [u8], n: usize, st: DiBlock) -> DiBlock
     requires { (32 * n ≤ length m.old) × (n < 2 ^ 16) }
-    ensures wrote { m.new ≡ passed (then_on (mask (tweaked (encrypted c.now)) st) (untopOf (tweaked (encrypted c.now)) (tweaked (decrypted c.now)))) n m.old }
-    ensures sums { result ≡ xstar (each (mask (tweaked (encrypted c.now)) st) 1 (reads n m.old)) }
+    ensures wrote { m.new ≡ passed (then_on (mask (tweaked (C.encrypted c.now)) st) (untopOf (tweaked (C.encrypted c.now)) (tweaked (C.decrypted c.now)))) n m.old }
+    ensures sums { result ≡ xstar (each (mask (tweaked (C.encrypted c.now)) st) 1 (reads n m.old)) }
 {
     let mut s = st.left;
     let mut sums = DiBlock { left: 0, right: 0 };

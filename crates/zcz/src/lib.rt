@@ -24,9 +24,9 @@ const LONGEST: usize = 65536;
 // Enciphers a message of 32 to 65,536 bytes in place. One of another length is refused and left as it is.
 pub fn encipher<C: TweakableCipher>(c: &C, message: &mut [u8]) -> Result<(), Refusal>
     ensures answer { answered numbers result ≡ answer (length message.old) }
-    ensures wrote { message.new ≡ enciphered (encrypted c.now) message.old }
-    ensures back { deciphered (encrypted c.now) (decrypted c.now) message.new ≡ message.old }
-    ensures permutes { Permutes (encrypted c.now) (decrypted c.now) }
+    ensures wrote { message.new ≡ enciphered (C.encrypted c.now) message.old }
+    ensures back { deciphered (C.encrypted c.now) (C.decrypted c.now) message.new ≡ message.old }
+    ensures permutes { Permutes (C.encrypted c.now) (C.decrypted c.now) }
 {
     if message.len() < SHORTEST || message.len() > LONGEST {
         return Err(Refusal::Length);
@@ -39,9 +39,9 @@ pub fn encipher<C: TweakableCipher>(c: &C, message: &mut [u8]) -> Result<(), Ref
 // Deciphers a message of 32 to 65,536 bytes in place. One of another length is refused and left as it is.
 pub fn decipher<C: TweakableCipher>(c: &C, message: &mut [u8]) -> Result<(), Refusal>
     ensures answer { answered numbers result ≡ answer (length message.old) }
-    ensures wrote { message.new ≡ deciphered (encrypted c.now) (decrypted c.now) message.old }
-    ensures back { enciphered (encrypted c.now) message.new ≡ message.old }
-    ensures permutes { Permutes (encrypted c.now) (decrypted c.now) }
+    ensures wrote { message.new ≡ deciphered (C.encrypted c.now) (C.decrypted c.now) message.old }
+    ensures back { enciphered (C.encrypted c.now) message.new ≡ message.old }
+    ensures permutes { Permutes (C.encrypted c.now) (C.decrypted c.now) }
 {
     if message.len() < SHORTEST || message.len() > LONGEST {
         return Err(Refusal::Length);

@@ -14,8 +14,8 @@ use cipher::tweakable::TweakableCipher;
 // Steps 2 to 6 over n di-blocks and the last; the answer is the last one's.
 fn core<C: TweakableCipher>(c: &C, m: &mut [u8], n: usize, last: DiBlock) -> DiBlock
     requires { (32 * n ≤ length m.old) × ((n < 2 ^ 16 - 1) × (AllBelowBase 256 m.old)) }
-    ensures wrote { m.new ≡ writes (core_of (tweaked (encrypted c.now)) (reads n m.old) last).0 ++ drop (32 * n) m.old }
-    ensures last { result ≡ (core_of (tweaked (encrypted c.now)) (reads n m.old) last).1 }
+    ensures wrote { m.new ≡ writes (core_of (tweaked (C.encrypted c.now)) (reads n m.old) last).0 ++ drop (32 * n) m.old }
+    ensures last { result ≡ (core_of (tweaked (C.encrypted c.now)) (reads n m.old) last).1 }
 {
     let l = n as u32 + 1;
     let x = top_layer(c, m, n);
@@ -27,8 +27,8 @@ fn core<C: TweakableCipher>(c: &C, m: &mut [u8], n: usize, last: DiBlock) -> DiB
 // Steps 6 to 2 taken back.
 fn uncore<C: TweakableCipher>(c: &C, m: &mut [u8], n: usize, last: DiBlock) -> DiBlock
     requires { (32 * n ≤ length m.old) × ((n < 2 ^ 16 - 1) × (AllBelowBase 256 m.old)) }
-    ensures wrote { m.new ≡ writes (uncoreOf (tweaked (encrypted c.now)) (tweaked (decrypted c.now)) (reads n m.old) last).0 ++ drop (32 * n) m.old }
-    ensures last { result ≡ (uncoreOf (tweaked (encrypted c.now)) (tweaked (decrypted c.now)) (reads n m.old) last).1 }
+    ensures wrote { m.new ≡ writes (uncoreOf (tweaked (C.encrypted c.now)) (tweaked (C.decrypted c.now)) (reads n m.old) last).0 ++ drop (32 * n) m.old }
+    ensures last { result ≡ (uncoreOf (tweaked (C.encrypted c.now)) (tweaked (C.decrypted c.now)) (reads n m.old) last).1 }
 {
     let l = n as u32 + 1;
     let y = unbottom_layer(c, m, n);
@@ -40,7 +40,7 @@ fn uncore<C: TweakableCipher>(c: &C, m: &mut [u8], n: usize, last: DiBlock) -> D
 // The mode on a message of an admitted length.
 pub fn encipher_message<C: TweakableCipher>(c: &C, m: &mut [u8])
     requires { (32 ≤ length m.old) × ((length m.old ≤ 65536) × (AllBelowBase 256 m.old)) }
-    ensures { m.new ≡ encipherOf (tweaked (encrypted c.now)) m.old }
+    ensures { m.new ≡ encipherOf (tweaked (C.encrypted c.now)) m.old }
 {
     let n = m.len() / 32 - 1;
     let last = DiBlock::read(m, n) ^ tail_hash(c, 0, m, n);
@@ -53,7 +53,7 @@ pub fn encipher_message<C: TweakableCipher>(c: &C, m: &mut [u8])
 // The mode taken back.
 pub fn decipher_message<C: TweakableCipher>(c: &C, m: &mut [u8])
     requires { (32 ≤ length m.old) × ((length m.old ≤ 65536) × (AllBelowBase 256 m.old)) }
-    ensures { m.new ≡ decipherOf (tweaked (encrypted c.now)) (tweaked (decrypted c.now)) m.old }
+    ensures { m.new ≡ decipherOf (tweaked (C.encrypted c.now)) (tweaked (C.decrypted c.now)) m.old }
 {
     let n = m.len() / 32 - 1;
     let last = DiBlock::read(m, n) ^ tail_hash(c, 4, m, n);

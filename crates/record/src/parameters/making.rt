@@ -5,7 +5,7 @@ ghost use Rattle.record.specs.Rules.{within, between, Named};
 ghost use Rattle.record.specs.Settings.{rules, wide as wide_of};
 ghost use Rattle.record.specs.Parameters.{making, answer, writing, reading as reading_of};
 ghost use Rattle.record.specs.ParameterReading.{under_encoded, read_written, written_read};
-ghost use Rattle.std.proofs.Common.{rules, arith};
+ghost use Rattle.std.proofs.Common.{rules as lemmas, arith};
 
 use super::ParameterSet;
 use crate::fault::FieldFault;
@@ -88,9 +88,9 @@ impl Record for ParameterSet {
 
     ghost reading = { reading_of };
 
-    ghost four = { first_of (Prim.search rules, Prim.grind (arith, Self.row.coded.inj)) };
+    ghost four = { first_of (Prim.search lemmas, Prim.grind (arith, Self.row.coded.inj)) };
 
-    ghost narrow = { first_of (Prim.search rules, Prim.grind (arith, Self.row.coded.inj)) };
+    ghost narrow = { first_of (Prim.search lemmas, Prim.grind (arith, Self.row.coded.inj)) };
 
     ghost long = { λ s. (refl, under_encoded s.fields s.ok) };
 

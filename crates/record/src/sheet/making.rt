@@ -5,7 +5,7 @@ ghost use Rattle.record.specs.Rules.{within, Named};
 ghost use Rattle.record.specs.Fields.{rules, list_of, fields_of};
 ghost use Rattle.record.specs.Sheets.{making, answer, writing, reading as reading_of};
 ghost use Rattle.record.specs.Reading.{read_written, written_read};
-ghost use Rattle.std.proofs.Common.{rules, arith};
+ghost use Rattle.std.proofs.Common.{rules as lemmas, arith};
 
 use super::Sheet;
 use crate::fault::FieldFault;
@@ -117,11 +117,11 @@ impl Record for Sheet {
 
     ghost reading = { reading_of };
 
-    ghost four = { first_of (Prim.search rules, Prim.grind (arith, Self.row.coded.inj)) };
+    ghost four = { first_of (Prim.search lemmas, Prim.grind (arith, Self.row.coded.inj)) };
 
-    ghost narrow = { first_of (Prim.search rules, Prim.grind (arith, Self.row.coded.inj)) };
+    ghost narrow = { first_of (Prim.search lemmas, Prim.grind (arith, Self.row.coded.inj)) };
 
-    ghost long = { first_of (Prim.search rules, Prim.grind (arith, Self.row.coded.inj)) };
+    ghost long = { first_of (Prim.search lemmas, Prim.grind (arith, Self.row.coded.inj)) };
 
     ghost readback = { λ s. read_written s };
 

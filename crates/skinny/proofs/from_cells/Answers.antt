@@ -5,4 +5,4 @@ use Rattle.skinny.proofs.from_cells.Goals as goal
 
 pub returns : goal.returns
 unfolding block_of
-returns c = c.from-be-bytes.ensures ∙ number_sixteen c.args.x c.fits-x.0
+returns c = c.from_be_bytes.ensures ∙ number_sixteen c.args.x c.fits-x.0

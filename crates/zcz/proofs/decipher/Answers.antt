@@ -28,8 +28,8 @@ returns g c =
     let met = g.met.C.TweakableCipher in
     let laws : Lawful f h = record { encfits = met.encfits x; decfits = met.decfits x; decenc = met.decenc x; encdec = met.encdec x } in
     let m = c.args.message.now in
-    let ok : Message m = record { bytes = c.all-bytes.ensures; long = omega arith; short = omega arith } in
-    let wrote : c.deciphered_message.new.m ≡ deciphered f h m = c.deciphered_message.ensures ∙ sym (is_deciphered f h laws m ok) in
+    let ok : Message m = record { bytes = c.all_bytes.ensures; long = omega arith; short = omega arith } in
+    let wrote : c.decipher_message.new.m ≡ deciphered f h m = c.decipher_message.ensures ∙ sym (is_deciphered f h laws m ok) in
     record {
       answer = ap (λ b. cond b (accepted tt) (refused (1 ∷ []))) (sym (admits (length m) ok.long ok.short));
       wrote = wrote;

@@ -28,8 +28,8 @@ returns g c =
     let met = g.met.C.TweakableCipher in
     let laws : Lawful f h = record { encfits = met.encfits x; decfits = met.decfits x; decenc = met.decenc x; encdec = met.encdec x } in
     let m = c.args.message.now in
-    let ok : Message m = record { bytes = c.all-bytes.ensures; long = omega arith; short = omega arith } in
-    let wrote : c.enciphered_message.new.m ≡ enciphered f m = c.enciphered_message.ensures ∙ sym (is_enciphered f h laws m ok) in
+    let ok : Message m = record { bytes = c.all_bytes.ensures; long = omega arith; short = omega arith } in
+    let wrote : c.encipher_message.new.m ≡ enciphered f m = c.encipher_message.ensures ∙ sym (is_enciphered f h laws m ok) in
     record {
       answer = ap (λ b. cond b (accepted tt) (refused (1 ∷ []))) (sym (admits (length m) ok.long ok.short));
       wrote = wrote;

@@ -9,7 +9,7 @@ pub loop-i-init : goal.loop-i-init
 unfolding rounds
 loop-i-init c =
     let aes = c.args.self.now in
-    c.add-round-key-x.ensures ∙ ap₂ add c.from-block.ensures (plain_key_at aes.key aes.forward aes.expanded 0 (omega arith) _)
+    c.add_round_key-x.ensures ∙ ap₂ add c.from_block.ensures (plain_key_at aes.key aes.forward aes.expanded 0 (omega arith) _)
 
 pub loop-i-preserved : goal.loop-i-preserved
 loop-i-preserved c =
@@ -24,9 +24,9 @@ unfolding aes_encrypted cipher
 returns c =
     let aes = c.args.self.now in
     let end : c.loop-i.i - 1 ≡ 9 = omega arith in
-    c.to-block.ensures
+    c.to_block.ensures
     ∙ ap (number_from_digits 256)
-    (c.last-round.ensures
+    (c.last_round.ensures
     ∙ ap₂ (λ (s k : State). add (shifted_rows (sub_bytes s)) k)
     (c.loop-i.invariant ∙ ap (λ (n : ℕ). rounds (bytes 16 aes.key) n (bytes 16 c.args.block)) end)
     (plain_key_at aes.key aes.forward aes.expanded 10 (omega arith) _))

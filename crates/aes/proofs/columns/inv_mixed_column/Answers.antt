@@ -6,9 +6,9 @@ use Rattle.aes.proofs.columns.inv_mixed_column.Goals as goal
 pub returns : goal.returns
 returns c =
     column_code 14 11 13 9 _ _ _ _ _ _ _ _ _ _ _
-    (byte_at (λ x. part 14 11 13 9 (inv_sbox x)) 0 c.args.a c.to-be-bytes-4.result c.inv-mixed-byte-4.ensures c.to-be-bytes-4.ensures)
-    (byte_at (λ x. part 14 11 13 9 (inv_sbox x)) 1 c.args.b c.to-be-bytes-3.result c.inv-mixed-byte-3.ensures c.to-be-bytes-3.ensures)
-    (byte_at (λ x. part 14 11 13 9 (inv_sbox x)) 2 c.args.c c.to-be-bytes-2.result c.inv-mixed-byte-2.ensures c.to-be-bytes-2.ensures)
-    (byte_at (λ x. part 14 11 13 9 (inv_sbox x)) 3 c.args.d c.to-be-bytes.result c.inv-mixed-byte.ensures c.to-be-bytes.ensures)
-    c.inv-mixed-byte.type-inv (xor_lt 32 _ _ c.inv-mixed-byte-2.type-inv c.rotate-right-three.type-inv) (xor_lt 32 _ _ c.inv-mixed-byte-3.type-inv c.rotate-right-two.type-inv)
-    c.rotate-right-three.ensures c.rotate-right-two.ensures c.rotate-right-one.ensures
+    (byte_at (λ x. part 14 11 13 9 (inv_sbox x)) 0 c.args.a c.to_be_bytes-4.result c.inv_mixed_byte-4.ensures c.to_be_bytes-4.ensures)
+    (byte_at (λ x. part 14 11 13 9 (inv_sbox x)) 1 c.args.b c.to_be_bytes-3.result c.inv_mixed_byte-3.ensures c.to_be_bytes-3.ensures)
+    (byte_at (λ x. part 14 11 13 9 (inv_sbox x)) 2 c.args.c c.to_be_bytes-2.result c.inv_mixed_byte-2.ensures c.to_be_bytes-2.ensures)
+    (byte_at (λ x. part 14 11 13 9 (inv_sbox x)) 3 c.args.d c.to_be_bytes.result c.inv_mixed_byte.ensures c.to_be_bytes.ensures)
+    c.inv_mixed_byte.type_inv (xor_lt 32 _ _ c.inv_mixed_byte-2.type_inv c.rotate_right-three.type_inv) (xor_lt 32 _ _ c.inv_mixed_byte-3.type_inv c.rotate_right-two.type_inv)
+    c.rotate_right-three.ensures c.rotate_right-two.ensures c.rotate_right-one.ensures

@@ -5,10 +5,10 @@ use Rattle.aes.proofs.columns.sub_column.Goals as goal
 
 pub returns : goal.returns
 returns c =
-    word_bytes c.from-be-bytes.result _ _ _ _ c.sub_is_byte.type-inv c.sub-byte-2.type-inv c.sub-byte-3.type-inv c.sub-byte-4.type-inv c.from-be-bytes.ensures
+    word_bytes c.from_be_bytes.result _ _ _ _ c.sub_byte.type_inv c.sub_byte-2.type_inv c.sub_byte-3.type_inv c.sub_byte-4.type_inv c.from_be_bytes.ensures
     ∙ (λ t.
-    byte_at sbox 0 c.args.a c.to-be-bytes.result c.sub_is_byte.ensures c.to-be-bytes.ensures t
-    ∷ byte_at sbox 1 c.args.b c.to-be-bytes-2.result c.sub-byte-2.ensures c.to-be-bytes-2.ensures t
-    ∷ byte_at sbox 2 c.args.c c.to-be-bytes-3.result c.sub-byte-3.ensures c.to-be-bytes-3.ensures t
-    ∷ byte_at sbox 3 c.args.d c.to-be-bytes-4.result c.sub-byte-4.ensures c.to-be-bytes-4.ensures t
+    byte_at sbox 0 c.args.a c.to_be_bytes.result c.sub_byte.ensures c.to_be_bytes.ensures t
+    ∷ byte_at sbox 1 c.args.b c.to_be_bytes-2.result c.sub_byte-2.ensures c.to_be_bytes-2.ensures t
+    ∷ byte_at sbox 2 c.args.c c.to_be_bytes-3.result c.sub_byte-3.ensures c.to_be_bytes-3.ensures t
+    ∷ byte_at sbox 3 c.args.d c.to_be_bytes-4.result c.sub_byte-4.ensures c.to_be_bytes-4.ensures t
     ∷ [])

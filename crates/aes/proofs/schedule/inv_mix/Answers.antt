@@ -10,6 +10,6 @@ use Rattle.aes.proofs.schedule.inv_mix.Goals as goal
 pub returns : goal.returns
 returns c =
     let w = c.args.w in
-    c.inv-mixed-column.ensures
-    ∙ ap (λ (ws : List ℕ). on_column 14 11 13 9 (map inv_sbox ws)) c.sub-column-s.ensures
+    c.inv_mixed_column.ensures
+    ∙ ap (λ (ws : List ℕ). on_column 14 11 13 9 (map inv_sbox ws)) c.sub_column-s.ensures
     ∙ ap (on_column 14 11 13 9) (map_undone sbox inv_sbox sbox_byte sbox_back 4 (bytes 4 w) (length-bytes 4 w, under_bytes 4 w)).1

@@ -5,4 +5,4 @@ use Rattle.aes.proofs.schedule.inv_mix_columns.Goals as goal
 
 pub returns : goal.returns
 unfolding state on_columns
-returns c = state_is _ _ _ _ c.inv-mix.ensures c.inv-mix-2.ensures c.inv-mix-3.ensures c.inv-mix-4.ensures
+returns c = state_is _ _ _ _ c.inv_mix.ensures c.inv_mix-2.ensures c.inv_mix-3.ensures c.inv_mix-4.ensures

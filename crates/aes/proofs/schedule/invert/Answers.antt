@@ -11,7 +11,7 @@ loop-i-preserved c =
     let lt : c.loop-i.i < length c.loop-i.inverted = omega (arith, c.loop-i.invariant.0) in
     let in-keys : c.loop-i.i < length c.args.keys.now = omega (arith, c.told-keys) in (
       simp length-set inv.0,
-      stored_more state (λ k. inv_mixed_columns (state k)) c.loop-i.inverted c.args.keys.now c.loop-i.i c.inv-mix-columns.result _ lt in-keys c.inv-mix-columns.ensures inv.1,
+      stored_more state (λ k. inv_mixed_columns (state k)) c.loop-i.inverted c.args.keys.now c.loop-i.i c.inv_mix_columns.result _ lt in-keys c.inv_mix_columns.ensures inv.1,
     )
 
 pub returns : goal.returns

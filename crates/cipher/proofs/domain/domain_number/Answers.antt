@@ -2,12 +2,12 @@ use Rattle.std.proofs.Common.{codes}
 use Rattle.cipher.proofs.Texts.{apart}
 use Rattle.cipher.proofs.domain.domain_number.Goals as goal
 
-pub returns-in-default : goal.returns-in-default
-returns-in-default c =
-    let n = c.in-default in
+pub returns-in_default : goal.returns-in_default
+returns-in_default c =
+    let n = c.in_default in
     let x = c.args.name.now in
     rw (
-      apart x (codes "t") n.not_t,
+      apart x (codes "t") n.not-t,
       apart x (codes "s") n.not-s,
       apart x (codes "c") n.not-c,
       apart x (codes "b") n.not-b,

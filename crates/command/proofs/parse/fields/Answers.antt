@@ -7,7 +7,7 @@ use Rattle.command.proofs.parse.fields.Goals as goal
 
 pub returns : goal.returns
 returns c =
-    let ns = c.in-ok-numbers.numbers in
-    let read = c.in-ok-numbers.ensures in
+    let ns = c.in_ok-numbers.numbers in
+    let read = c.in_ok-numbers.ensures in
     let all : ns ≡ list_of c.of.result = sym (spread-all 7 ns read.0.0) ∙ ap list_of (sym c.of.ensures) in
     (subst (All Small) all read.0.1, read.1 ∙ ap listed all)

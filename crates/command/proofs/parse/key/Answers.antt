@@ -5,15 +5,15 @@ use Rattle.block.proofs.OnBytes.{length-bytes, under_bytes, bytes_number}
 use Rattle.text.specs.Texts.{hex}
 use Rattle.command.proofs.parse.key.Goals as goal
 
-pub returns-then-bytes-of : goal.returns-then-bytes-of
-returns-then-bytes-of c =
-    let out = c.bytes-of.new.out in
-    let read = c.if-bytes-of.ensures in
+pub returns-then-bytes_of : goal.returns-then-bytes_of
+returns-then-bytes_of c =
+    let out = c.bytes_of.new.out in
+    let read = c.if-bytes_of.ensures in
     let len : length out ≡ 16 = omega arith in
     let all = take_all 16 out (omega arith) in
-    let back : bytes 16 c.read-block.result ≡ out = ap (bytes 16) c.read-block.ensures ∙ rw all (bytes_number 16 out len read.0) in
-    (c.read-block.type-inv, read.1 ∙ ap hex (sym back))
+    let back : bytes 16 c.read_block.result ≡ out = ap (bytes 16) c.read_block.ensures ∙ rw all (bytes_number 16 out len read.0) in
+    (c.read_block.type_inv, read.1 ∙ ap hex (sym back))
 
-pub returns-else-bytes-of : goal.returns-else-bytes-of
-returns-else-bytes-of c = λ x h e.
-    c.if-bytes-of.ensures (bytes 16 x) (omega (arith, length-bytes 16 x)) (under_bytes 16 x) e
+pub returns-else-bytes_of : goal.returns-else-bytes_of
+returns-else-bytes_of c = λ x h e.
+    c.if-bytes_of.ensures (bytes 16 x) (omega (arith, length-bytes 16 x)) (under_bytes 16 x) e

@@ -7,18 +7,18 @@ use Rattle.record.specs.Reading.{made-fields}
 use Rattle.text.specs.Texts.{Seven, listed}
 use Rattle.commission.proofs.intake.sheet_of.Goals as goal
 
-pub returns-in-err-sheet : goal.returns-in-err-sheet
-returns-in-err-sheet c =
+pub returns-in_err-sheet : goal.returns-in_err-sheet
+returns-in_err-sheet c =
     let ns = c.in-Some.numbers in
     let read = c.in-Some.ensures in
     let all : ns ≡ list_of (fields_of ns) = sym (spread-all 7 ns read.0.0) in
-    let p = err_from_is_err_and c.from-residual.result c.from-residual.ensures.1 in
+    let p = err_from_is_err_and c.from_residual.result c.from_residual.ensures.1 in
     rw (p.1, p.2)
-    (fields_of ns, subst Seven all read.0, read.1 ∙ ap listed all, ap making (sym c.of.ensures) ∙ sym c.in-err-sheet.ensures.value)
+    (fields_of ns, subst Seven all read.0, read.1 ∙ ap listed all, ap making (sym c.of.ensures) ∙ sym c.in_err-sheet.ensures.value)
 
 pub returns : goal.returns
 returns c =
     let ns = c.in-Some.numbers in
     let read = c.in-Some.ensures in
-    let made = made-fields c.of.result c.in-ok-sheet.sheet (sym c.in-ok-sheet.ensures.value) in
+    let made = made-fields c.of.result c.in_ok-sheet.sheet (sym c.in_ok-sheet.ensures.value) in
     read.1 ∙ ap listed (sym (spread-all 7 ns read.0.0) ∙ ap list_of (sym c.of.ensures ∙ made))

@@ -6,11 +6,11 @@ use Rattle.line.specs.Benches.{formed_of, state}
 use Rattle.line.proofs.Parts.{served}
 use Rattle.line.proofs.act.on_store.Goals as goal
 
-pub returns-in-default : goal.returns-in-default
-returns-in-default c =
+pub returns-in_default : goal.returns-in_default
+returns-in_default c =
     let m = c.args.memory.now in
     let w = c.args.working.now in
-    let none : None ≡ c.args.formed.now = c.in-default.ensures.value in
+    let none : None ≡ c.args.formed.now = c.in_default.ensures.value in
     (no (9 ∷ []), subst (λ o. On (state o m w) (option_map formed_of o) c.args.command (state c.take.new.self m w) (no (9 ∷ []))) none (ap (λ o. state o m w) c.take.ensures.after, refl), c.say.ensures)
 
 pub returns : goal.returns

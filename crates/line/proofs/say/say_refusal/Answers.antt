@@ -6,5 +6,5 @@ use Rattle.line.proofs.say.say_refusal.Goals as goal
 
 pub returns : goal.returns
 returns c =
-    written_more c.args.out.now c.word-at.new.out c.say-numbers.new.out (codes "no,") (listed (refusalNumbers c.args.refusal)) 0 c.word-at.result c.say-numbers.result
-    (omega arith) c.word-at.ensures c.say-numbers.ensures
+    written_more c.args.out.now c.word-at.new.out c.say_numbers.new.out (codes "no,") (listed (refusalNumbers c.args.refusal)) 0 c.word-at.result c.say_numbers.result
+    (omega arith) c.word-at.ensures c.say_numbers.ensures

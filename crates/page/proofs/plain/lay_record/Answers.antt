@@ -13,6 +13,6 @@ returns g c =
     let filled : c.fill.new.self ≡ replicate n 0 = c.fill.ensures.after (λ y e. e) in
     let long : length h ≡ 16 = head_long g.R.Record.label 1 c.args.slot g.met.R.Record.four.0 in
     let wide : k ≡ w = omega (arith, c.size-end.ensures) in
-    ap₂ (λ x z. put_mid 16 k (x ++ post_of 0 16 z) c.write.new.out) c.write-head.ensures filled
+    ap₂ (λ x z. put_mid 16 k (x ++ post_of 0 16 z) c.write.new.out) c.write_head.ensures filled
     ∙ body_is n w k h c.write.new.out long wide
     ∙ ap (λ b. h ++ (b ++ replicate (n - (16 + w)) 0)) c.write.ensures

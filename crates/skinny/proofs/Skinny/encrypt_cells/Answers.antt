@@ -11,7 +11,7 @@ loop-i-preserved c =
     let ks = c.args.self.now.keys in
     let n : length ks ≡ 56 = sym (length-map ks (λ k. k.cells)) ∙ ap length c.args.self.now.ok ∙ length-key_part 56 0 (cells_of c.args.self.now.key) in
     let l : 2 * c.loop-i.i + 1 < length ks = omega arith in
-    simp (c.round-state-in-loop-i.ensures, c.round-state.ensures, c.lower-rows.ensures, c.upper-rows.ensures, c.head-after-two-tk1.ensures, c.body-after-two-tk2.ensures)
+    simp (c.round-state-in-loop-i.ensures, c.round-state.ensures, c.lower_rows.ensures, c.upper_rows.ensures, c.head_after_two-tk1.ensures, c.body_after_two-tk2.ensures)
     (sym (rounds_two (λ k. k.cells) ks _ c.loop-i.tk1 c.loop-i.tk2 c.loop-i.state c.loop-i.i l) ∙ c.loop-i.invariant)
 
 pub returns : goal.returns

@@ -13,7 +13,7 @@ loop-i-preserved c =
     let l : 2 * c.loop-i.i + 1 < length ks = omega arith in
     let m : 2 * c.loop-i.i + 1 < length c.loop-i.sums = omega arith in (
       simp length-set c.loop-i.invariant.0,
-      simp (c.lower-rows.ensures, c.upper-rows.ensures, c.head-after-two-tk1.ensures, c.body-after-two-tk2.ensures)
+      simp (c.lower_rows.ensures, c.upper_rows.ensures, c.head_after_two-tk1.ensures, c.body_after_two-tk2.ensures)
           (put_two c.loop-i.sums c.loop-i.i _ _ _ _ m
           (ap (λ (xs : List Cells). take (2 * c.loop-i.i) c.loop-i.sums ++ xs) (sym (tweaked_more (λ k. k.cells) ks _ c.loop-i.tk1 c.loop-i.tk2 c.loop-i.i l)) ∙ c.loop-i.invariant.1)),
     )

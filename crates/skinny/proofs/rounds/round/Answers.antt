@@ -3,4 +3,4 @@ use Rattle.skinny.proofs.rounds.round.Goals as goal
 
 pub returns : goal.returns
 unfolding round_of
-returns c = simp (c.mix-columns.ensures, c.shift-rows.ensures, c.sub-cells.ensures)
+returns c = simp (c.mix_columns.ensures, c.shift_rows.ensures, c.sub_cells.ensures)

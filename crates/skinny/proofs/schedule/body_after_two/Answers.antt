@@ -10,4 +10,4 @@ pub returns : goal.returns
 returns c =
     let t = c.args.t in
     let both : twice (map lfsr2 t) ≡ map lfsr2 (twice t) = rw (← spread-all 16 t c.fits-t.0) in
-    simp c.head-after-two.ensures (rw (← both, ← map_cells lfsr2_step lfsr2 lfsr2_is t c.fits-t.1) (rw (← spread-all 16 t c.fits-t.0)))
+    simp c.head_after_two.ensures (rw (← both, ← map_cells lfsr2_step lfsr2 lfsr2_is t c.fits-t.1) (rw (← spread-all 16 t c.fits-t.0)))

@@ -6,8 +6,8 @@ pub loop-i-preserved : goal.loop-i-preserved
 loop-i-preserved c =
     let l : c.loop-i.i < 56 = omega arith in (
       simp length-set c.loop-i.invariant.0,
-      simp (c.shift-key-t.ensures, c.permute.ensures)
-          (stored_more (λ k. k.cells) c.loop-i.t c.loop-i.keys _ c.loop-i.i _ (simp (c.with-constant.ensures, c.constant.ensures)) l c.loop-i.invariant.0 c.loop-i.invariant.1),
+      simp (c.shift_key-t.ensures, c.permute.ensures)
+          (stored_more (λ k. k.cells) c.loop-i.t c.loop-i.keys _ c.loop-i.i _ (simp (c.with_constant.ensures, c.constant.ensures)) l c.loop-i.invariant.0 c.loop-i.invariant.1),
     )
 
 pub returns : goal.returns

@@ -5,11 +5,11 @@ use Rattle.page.proofs.Opening.{told}
 use Rattle.store.proofs.Passes.{rewritten}
 use Rattle.store.proofs.all.change_guarded.Goals as goal
 
-pub returns-in-err-look : goal.returns-in-err-look
-returns-in-err-look g c =
-    let p = err_from_is_err_and c.from-residual.result c.from-residual.ensures.1 in
+pub returns-in_err-look : goal.returns-in_err-look
+returns-in_err-look g c =
+    let p = err_from_is_err_and c.from_residual.result c.from_residual.ensures.1 in
     record {
-      answer = rw (p.1, p.2) (refl, c.in-err-look.ensures);
+      answer = rw (p.1, p.2) (refl, c.in_err-look.ensures);
       wiped = c.drop-guard.ensures ∙ ap (λ n. replicate n 0) (omega (arith, c.look.auto.working));
     }
 
@@ -21,7 +21,7 @@ returns g c =
     let lawful : Lawful (g.C.TweakableCipher.encrypted from) (g.C.TweakableCipher.decrypted from) = record { encfits = cipher.encfits from; decfits = cipher.decfits from; decenc = cipher.decenc from; encdec = cipher.encdec from } in
     let tells = told g.R.Record kind.four.0 kind.narrow (λ r. (kind.long r).0) kind.readback kind.writeback in
     record {
-      answer = rewritten g.C.TweakableCipher tells c.args.geometry from c.args.to.now lawful c.args.memory.now c.requires.0 c.all-bytes.ensures
-          c.move-all.new.memory c.in-ok-look.ensures c.move-all.ensures;
-      wiped = c.drop-guard-2.ensures ∙ ap (λ n. replicate n 0) (omega (arith, c.look.auto.working, c.move-all.auto.working));
+      answer = rewritten g.C.TweakableCipher tells c.args.geometry from c.args.to.now lawful c.args.memory.now c.requires.0 c.all_bytes.ensures
+          c.move_all.new.memory c.in_ok-look.ensures c.move_all.ensures;
+      wiped = c.drop-guard-2.ensures ∙ ap (λ n. replicate n 0) (omega (arith, c.look.auto.working, c.move_all.auto.working));
     }

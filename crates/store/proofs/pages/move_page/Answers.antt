@@ -13,9 +13,9 @@ returns g c =
     let k = c.args.slot in
     let s = c.start-start.ensures in
     let e = c.end-end.ensures.value in
-    only_part w k m c.copy-from-slice-2.new.self c.start-start.result c.end-end.result _ s e
-    (omega (arith, c.copy-from-slice-2.auto.self, part_long w k m _ _ s e (omega arith)))
+    only_part w k m c.copy_from_slice-2.new.self c.start-start.result c.end-end.result _ s e
+    (omega (arith, c.copy_from_slice-2.auto.self, part_long w k m _ _ s e (omega arith)))
     (omega arith)
-    (c.copy-from-slice-2.ensures.after ∙ c.encipher.ensures.wrote
+    (c.copy_from_slice-2.ensures.after ∙ c.encipher.ensures.wrote
     ∙ ap (enciphered (𝒸.encrypted to)) (c.decipher.ensures.wrote
-    ∙ ap (deciphered (𝒸.encrypted from) (𝒸.decrypted from)) (c.copy-from-slice.ensures.after ∙ part-page w k m _ _ s e)))
+    ∙ ap (deciphered (𝒸.encrypted from) (𝒸.decrypted from)) (c.copy_from_slice.ensures.after ∙ part-page w k m _ _ s e)))

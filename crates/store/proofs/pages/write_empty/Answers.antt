@@ -12,8 +12,8 @@ returns g c =
     let s = c.start-start.ensures in
     let e = c.end-end.ensures.value in
     let long = part_long w k m _ _ s e (omega arith) in
-    only_part w k m c.seal-empty.new.page c.start-start.result c.end-end.result _ s e
-    (omega (arith, c.seal-empty.auto.page, long))
+    only_part w k m c.seal_empty.new.page c.start-start.result c.end-end.result _ s e
+    (omega (arith, c.seal_empty.auto.page, long))
     (omega arith)
-    (c.seal-empty.ensures.wrote
+    (c.seal_empty.ensures.wrote
     ∙ ap (λ n. enciphered (g.C.TweakableCipher.encrypted c.args.c.now) (plain g.R.Record n k None)) long)

@@ -12,8 +12,8 @@ returns g c =
     let s = c.start-start.ensures in
     let e = c.end-end.ensures.value in
     let long = part_long w k m _ _ s e (omega arith) in
-    only_part w k m c.seal-record.new.page c.start-start.result c.end-end.result _ s e
-    (omega (arith, c.seal-record.auto.page, long))
+    only_part w k m c.seal_record.new.page c.start-start.result c.end-end.result _ s e
+    (omega (arith, c.seal_record.auto.page, long))
     (omega arith)
-    (c.seal-record.ensures.wrote
+    (c.seal_record.ensures.wrote
     ∙ ap (λ n. enciphered (g.C.TweakableCipher.encrypted c.args.c.now) (plain g.R.Record n k (Some c.args.content.now))) long)

@@ -11,15 +11,15 @@ returns-then-text-out c = λ bs len all e. let l : length c.args.text.now ≡ 2 
 pub loop-i-init : goal.loop-i-init
 loop-i-init c = (tt, sym hex_none)
 
-pub returns-in-default : goal.returns-in-default
-returns-in-default c = λ bs len all e.
+pub returns-in_default : goal.returns-in_default
+returns-in_default c = λ bs len all e.
     let b : get_or bs c.loop-i.i 0 < 256 = All-get_or (λ d. d < 256) bs c.loop-i.i 0 (omega arith) all in
-    c.in-default.ensures (get_or bs c.loop-i.i 0 / 16) (omega arith) (ap (λ t. get_or t (2 * c.loop-i.i) 0) e ∙ hex_high bs c.loop-i.i (omega arith))
+    c.in_default.ensures (get_or bs c.loop-i.i 0 / 16) (omega arith) (ap (λ t. get_or t (2 * c.loop-i.i) 0) e ∙ hex_high bs c.loop-i.i (omega arith))
 
-pub returns-in-default-nibble : goal.returns-in-default-nibble
-returns-in-default-nibble c = λ bs len all e.
+pub returns-in_default-nibble : goal.returns-in_default-nibble
+returns-in_default-nibble c = λ bs len all e.
     let b : get_or bs c.loop-i.i 0 < 256 = All-get_or (λ d. d < 256) bs c.loop-i.i 0 (omega arith) all in
-    c.in-default-nibble.ensures (get_or bs c.loop-i.i 0 % 16) (omega arith) (ap (λ t. get_or t (2 * c.loop-i.i + 1) 0) e ∙ hex_low bs c.loop-i.i (omega arith))
+    c.in_default-nibble.ensures (get_or bs c.loop-i.i 0 % 16) (omega arith) (ap (λ t. get_or t (2 * c.loop-i.i + 1) 0) e ∙ hex_low bs c.loop-i.i (omega arith))
 
 pub loop-i-preserved : goal.loop-i-preserved
 loop-i-preserved c =

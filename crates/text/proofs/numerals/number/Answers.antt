@@ -12,7 +12,7 @@ returns-then-bytes-eq0 c = λ n h e.
     ⊎_elim (λ z. omega arith) (λ z. omega arith) c.then-bytes-eq0.either
 
 pub returns-then-bytes-gt1 : goal.returns-then-bytes-gt1
-returns-then-bytes-gt1 c = λ n h e. numeral_plain c.args.bytes.now n h e c.if-bytes-eq-ZERO.true (omega arith)
+returns-then-bytes-gt1 c = λ n h e. numeral_plain c.args.bytes.now n h e c.if-bytes-eq48.true (omega arith)
 
 pub returns-then-b-lt-ZERO : goal.returns-then-b-lt-ZERO
 returns-then-b-lt-ZERO c = λ n h e.
@@ -24,11 +24,11 @@ small bs i n l s d e =
     let len : length (take i bs) ≡ i = length-take-le i bs (omega arith) in
     let v : digits_value 10 (take i bs) < 10 ^ 5 = digits_value_short own (take i bs) 5 d (omega arith) in omega arith
 
-pub overflow-mul-n : goal.overflow-mul-n
-overflow-mul-n c = let s = small c.args.bytes.now c.loop-b.b-index c.loop-b.n c.loop-b-test.true c.if-bytes-gt-MOST-DIGITS.false c.loop-b.invariant.0 c.loop-b.invariant.1 in omega arith
+pub overflow_mul-n : goal.overflow_mul-n
+overflow_mul-n c = let s = small c.args.bytes.now c.loop-b.b-index c.loop-b.n c.loop-b-test.true c.if-bytes-gt-MOST_DIGITS.false c.loop-b.invariant.0 c.loop-b.invariant.1 in omega arith
 
-pub overflow-add-n : goal.overflow-add-n
-overflow-add-n c = let s = small c.args.bytes.now c.loop-b.b-index c.loop-b.n c.loop-b-test.true c.if-bytes-gt-MOST-DIGITS.false c.loop-b.invariant.0 c.loop-b.invariant.1 in omega arith
+pub overflow_add-n : goal.overflow_add-n
+overflow_add-n c = let s = small c.args.bytes.now c.loop-b.b-index c.loop-b.n c.loop-b-test.true c.if-bytes-gt-MOST_DIGITS.false c.loop-b.invariant.0 c.loop-b.invariant.1 in omega arith
 
 pub loop-b-preserved : goal.loop-b-preserved
 loop-b-preserved c = digit_step c.args.bytes.now c.loop-b.b-index c.loop-b.n c.loop-b-test.true c.loop-b.invariant.0 c.loop-b.invariant.1 c.if-b-lt-ZERO.false c.if-b-gt-NINE.false
@@ -39,8 +39,8 @@ returns c =
     let all : take c.loop-b.b-index bs ≡ bs = take_all c.loop-b.b-index bs c.loop-b-test.false in
     let ds : AllDigits 10 bs = rw all at c.loop-b.invariant.0 in
     let n : c.loop-b.n ≡ digits_value 10 bs = rw all at c.loop-b.invariant.1 in
-    rw n (numeral_made bs ds (omega arith) c.if-bytes-gt-MOST-DIGITS.false
-    (λ z l. elim c.else-bytes-eq-ZERO.branch [
-      | goal.else-bytes-eq-ZERO-via-then-bytes-eq-ZERO+else-bytes-gt1 w ↦ omega (arith, w.if-bytes-gt1.false)
-      | goal.else-bytes-eq-ZERO-via-else-bytes-eq-ZERO w ↦ w.if-bytes-eq-ZERO.false z
+    rw n (numeral_made bs ds (omega arith) c.if-bytes-gt-MOST_DIGITS.false
+    (λ z l. elim c.else-bytes-eq48.branch [
+      | goal.else-bytes-eq48-via-then-bytes-eq48+else-bytes-gt1 w ↦ omega (arith, w.if-bytes-gt1.false)
+      | goal.else-bytes-eq48-via-else-bytes-eq48 w ↦ w.if-bytes-eq48.false z
     ]))

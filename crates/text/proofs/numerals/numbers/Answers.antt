@@ -5,13 +5,13 @@ use Rattle.text.proofs.numerals.numbers.Goals as goal
 pub loop-i-init : goal.loop-i-init
 loop-i-init c = reading_none c.args.bytes.now c.args.out.now
 
-pub returns-in-default : goal.returns-in-default
-returns-in-default c = uncut c.args.bytes.now c.loop-i.out c.loop-i.rest.now c.loop-i.i (omega arith) c.loop-i.invariant c.in-default.ensures
+pub returns-in_default : goal.returns-in_default
+returns-in_default c = uncut c.args.bytes.now c.loop-i.out c.loop-i.rest.now c.loop-i.i (omega arith) c.loop-i.invariant c.in_default.ensures
 
-pub returns-in-default-number : goal.returns-in-default-number
-returns-in-default-number c =
+pub returns-in_default-number : goal.returns-in_default-number
+returns-in_default-number c =
     unread c.args.bytes.now c.loop-i.out c.loop-i.rest.now c.in-Some.piece.now c.in-Some.more.now c.loop-i.i (omega arith) c.loop-i.invariant
-    c.in-Some.ensures.0 c.in-Some.ensures.1 c.in-default-number.ensures
+    c.in-Some.ensures.0 c.in-Some.ensures.1 c.in_default-number.ensures
 
 pub loop-i-preserved : goal.loop-i-preserved
 loop-i-preserved c =

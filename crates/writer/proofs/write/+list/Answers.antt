@@ -12,8 +12,8 @@ number-end-requires t c = omega (arith, length_listed_first c.args.ns.now (omega
 pub bounds-out-end : goal.bounds-out-end
 bounds-out-end t c = omega (arith, length_listed_first c.args.ns.now (omega (arith, ltb-false)))
 
-pub overflow-add-end : goal.overflow-add-end
-overflow-add-end t c = omega (arith, length_listed_first c.args.ns.now (omega (arith, ltb-false)))
+pub overflow_add-end : goal.overflow_add-end
+overflow_add-end t c = omega (arith, length_listed_first c.args.ns.now (omega (arith, ltb-false)))
 
 pub list-requires : goal.list-requires
 list-requires t c = (

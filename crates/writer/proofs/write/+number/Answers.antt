@@ -15,8 +15,8 @@ number-last-requires t c = (omega arith, omega (arith, length_decimal_step c.arg
 pub bounds-out-last : goal.bounds-out-last
 bounds-out-last t c = omega (arith, length_decimal_step c.args.n c.if-n-lt10.false (omega arith))
 
-pub overflow-add-result-2 : goal.overflow-add-result-2
-overflow-add-result-2 t c = omega (arith, length_decimal_step c.args.n c.if-n-lt10.false (omega arith))
+pub overflow_add-result-2 : goal.overflow_add-result-2
+overflow_add-result-2 t c = omega (arith, length_decimal_step c.args.n c.if-n-lt10.false (omega arith))
 
 pub returns : goal.returns
 returns t c = written_last c.args.out.now c.number-last.new.out c.args.at c.args.n c.number-last.result c.if-n-lt10.false (omega arith) c.requires (omega arith) c.number-last.ensures

@@ -11,8 +11,8 @@ loop-i-preserved g c =
     let m = c.args.m.now in
     let done = c.loop-i.invariant.0 in
     let so_far = c.loop-i.invariant.1 in
-    let wrote = c.top-at-sums.ensures.wrote in
-    let sums = c.top-at-sums.ensures.sums in (
+    let wrote = c.top_at-sums.ensures.wrote in
+    let sums = c.top_at-sums.ensures.sums in (
       turn_wrote (top E) (top E) xstar xmore xstar-push i m done so_far wrote sums,
       turn_sums (top E) (top E) xstar xmore xstar-push i m done so_far wrote sums,
     )

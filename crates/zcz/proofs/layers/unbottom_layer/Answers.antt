@@ -12,8 +12,8 @@ loop-i-preserved g c =
     let m = c.args.m.now in
     let done = c.loop-i.invariant.0 in
     let so_far = c.loop-i.invariant.1 in
-    let wrote = c.unbottom-at-sums.ensures.wrote in
-    let sums = c.unbottom-at-sums.ensures.sums in (
+    let wrote = c.unbottom_at-sums.ensures.wrote in
+    let sums = c.unbottom_at-sums.ensures.sums in (
       turn_wrote (unbottom E D) (unbottom E D) ystar ymore ystar-push i m done so_far wrote sums,
       turn_sums (unbottom E D) (unbottom E D) ystar ymore ystar-push i m done so_far wrote sums,
     )

@@ -7,4 +7,4 @@ use Rattle.zcz.proofs.tail.tail_hash.Goals as goal
 pub returns : goal.returns
 returns g c =
     let E = tweaked (g.C.TweakableCipher.encrypted c.args.c.now) in
-    c.hash-tail.ensures ∙ ap (hash_of_tail E c.args.i) (take_all _ (drop (32 * c.args.n + 32) c.args.m.now) (simp length-drop (omega arith)))
+    c.hash_tail.ensures ∙ ap (hash_of_tail E c.args.i) (take_all _ (drop (32 * c.args.n + 32) c.args.m.now) (simp length-drop (omega arith)))

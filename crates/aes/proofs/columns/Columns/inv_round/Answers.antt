@@ -7,5 +7,5 @@ use Rattle.aes.proofs.columns.Columns.inv_round.Goals as goal
 pub returns : goal.returns
 unfolding state on_columns inv_shift_rows
 returns c =
-    c.add-round-key.ensures
-    ∙ ap (λ (s : State). add s (state c.args.key)) (state_is _ _ _ _ c.inv-mixed-column.ensures c.inv-mixed-column-2.ensures c.inv-mixed-column-3.ensures c.inv-mixed-column-4.ensures)
+    c.add_round_key.ensures
+    ∙ ap (λ (s : State). add s (state c.args.key)) (state_is _ _ _ _ c.inv_mixed_column.ensures c.inv_mixed_column-2.ensures c.inv_mixed_column-3.ensures c.inv_mixed_column-4.ensures)

@@ -7,5 +7,5 @@ use Rattle.aes.proofs.columns.Columns.last_inv_round.Goals as goal
 pub returns : goal.returns
 unfolding state inv_shift_rows
 returns c =
-    c.add-round-key.ensures
-    ∙ ap (λ (s : State). add s (state c.args.key)) (state_is _ _ _ _ c.inv-sub-column.ensures c.inv-sub-column-2.ensures c.inv-sub-column-3.ensures c.inv-sub-column-4.ensures)
+    c.add_round_key.ensures
+    ∙ ap (λ (s : State). add s (state c.args.key)) (state_is _ _ _ _ c.inv_sub_column.ensures c.inv_sub_column-2.ensures c.inv_sub_column-3.ensures c.inv_sub_column-4.ensures)

@@ -7,5 +7,5 @@ use Rattle.aes.proofs.columns.Columns.last_round.Goals as goal
 pub returns : goal.returns
 unfolding state shifted_rows
 returns c =
-    c.add-round-key.ensures
-    ∙ ap (λ (s : State). add s (state c.args.key)) (state_is _ _ _ _ c.sub-column.ensures c.sub-column-2.ensures c.sub-column-3.ensures c.sub-column-4.ensures)
+    c.add_round_key.ensures
+    ∙ ap (λ (s : State). add s (state c.args.key)) (state_is _ _ _ _ c.sub_column.ensures c.sub_column-2.ensures c.sub_column-3.ensures c.sub_column-4.ensures)

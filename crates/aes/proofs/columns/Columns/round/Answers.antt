@@ -7,5 +7,5 @@ use Rattle.aes.proofs.columns.Columns.round.Goals as goal
 pub returns : goal.returns
 unfolding state round on_columns shifted_rows
 returns c =
-    c.add-round-key.ensures
-    ∙ ap (λ (s : State). add s (state c.args.key)) (state_is _ _ _ _ c.mixed-column.ensures c.mixed-column-2.ensures c.mixed-column-3.ensures c.mixed-column-4.ensures)
+    c.add_round_key.ensures
+    ∙ ap (λ (s : State). add s (state c.args.key)) (state_is _ _ _ _ c.mixed_column.ensures c.mixed_column-2.ensures c.mixed_column-3.ensures c.mixed_column-4.ensures)

@@ -9,5 +9,5 @@ returns g c =
     record {
       does = search rules;
       forgot = λ x x' alike cleared.
-          same_only geo.slots geo.page c.args.slot m c.write-empty.new.memory x x' _ (omega (arith, geo.ok.2)) (search rules) cleared.0 alike c.write-empty.ensures cleared.2;
+          same_only geo.slots geo.page c.args.slot m c.write_empty.new.memory x x' _ (omega (arith, geo.ok.2)) (search rules) cleared.0 alike c.write_empty.ensures cleared.2;
     }

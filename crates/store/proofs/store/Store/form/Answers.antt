@@ -17,8 +17,8 @@ laws g =
       writeback = kind.writeback;
     }
 
-pub returns-in-err-check-memory : goal.returns-in-err-check-memory
-returns-in-err-check-memory g c = record { does = search rules; law = law (laws g) }
+pub returns-in_err-check_memory : goal.returns-in_err-check_memory
+returns-in_err-check_memory g c = record { does = search rules; law = law (laws g) }
 
 pub returns : goal.returns
-returns g c = record { does = (search rules, c.write-all.ensures.0, c.write-all.ensures.1); law = law (laws g) }
+returns g c = record { does = (search rules, c.write_all.ensures.0, c.write_all.ensures.1); law = law (laws g) }

@@ -3,7 +3,7 @@ use Rattle.store.proofs.store.Store.stored_page.Goals as goal
 
 pub returns : goal.returns
 returns g c = (
-  c.in-ok-check-memory.ensures,
-  c.in-ok-check-slot.ensures,
+  c.in_ok-check_memory.ensures,
+  c.in_ok-check_slot.ensures,
   part-page c.args.self.now.geometry.page c.args.slot c.args.memory.now _ _ c.start-start.ensures c.end-end.ensures.value,
 )

@@ -10,8 +10,8 @@ returns c =
     c.new.ensures.value
     ∙ ap making
     (same {e = get_or c.args.bytes.now 8 0}
-    c.read-sixteen.ensures.value
-    (to_z-of_z w32 c.from-twos.result (search rules) ∙ c.from-twos.ensures ∙ ap signed c.read-sixteen-2.ensures.value)
-    c.read-sixteen-3.ensures.value
-    c.read-sixteen-4.ensures.value
+    c.read_sixteen.ensures.value
+    (to_z-of_z w32 c.from_twos.result (search rules) ∙ c.from_twos.ensures ∙ ap signed c.read_sixteen-2.ensures.value)
+    c.read_sixteen-3.ensures.value
+    c.read_sixteen-4.ensures.value
     refl)

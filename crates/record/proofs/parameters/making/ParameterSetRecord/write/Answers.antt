@@ -9,6 +9,6 @@ returns c =
     let out = c.args.out.now in
     let f = c.args.self.now.fields in
     ap (λ m. set m 8 f.mode)
-    (c.write-sixteens.ensures
+    (c.write_sixteens.ensures
     ∙ ap (λ ns. sixteens ns ++ drop (2 * length ns) out) c.wide.ensures
     ∙ ap (λ r. sixteens (wide f) ++ r) (last_byte out c.requires))

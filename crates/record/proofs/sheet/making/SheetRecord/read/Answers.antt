@@ -7,4 +7,4 @@ pub returns : goal.returns
 returns c =
     c.new.ensures.value
     ∙ ap making
-    (same c.read-sixteen.ensures.value c.read-sixteen-2.ensures.value c.read-sixteen-3.ensures.value c.read-sixteen-4.ensures.value c.read-sixteen-5.ensures.value c.read-sixteen-6.ensures.value c.read-sixteen-7.ensures.value)
+    (same c.read_sixteen.ensures.value c.read_sixteen-2.ensures.value c.read_sixteen-3.ensures.value c.read_sixteen-4.ensures.value c.read_sixteen-5.ensures.value c.read_sixteen-6.ensures.value c.read_sixteen-7.ensures.value)

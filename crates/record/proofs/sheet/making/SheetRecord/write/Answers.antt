@@ -7,6 +7,6 @@ use Rattle.record.proofs.sheet.making.SheetRecord.write.Goals as goal
 pub returns : goal.returns
 returns c =
     let out = c.args.out.now in
-    c.write-sixteens.ensures
+    c.write_sixteens.ensures
     ∙ ap (λ ns. sixteens ns ++ drop (2 * length ns) out) c.numbers.ensures
     ∙ ap (λ r. encoded c.args.self.now.fields ++ r) (drop_all 14 out (omega arith))
