@@ -6,7 +6,7 @@ pub loop-i-init : goal.loop-i-init
 loop-i-init c = none _ c.args.block
 
 pub loop-i-preserved : goal.loop-i-preserved
-loop-i-preserved c = turn _ c.args.block c.loop-i.-i c.loop-i.invariant c.encrypt-x.ensures
+loop-i-preserved c = turn _ c.args.block c.loop-i._i c.loop-i.invariant c.encrypt-x.ensures
 
 pub returns : goal.returns
-returns c = ended _ c.args.block c.loop-i.-i c.args.n c.loop-i.invariant (omega arith)
+returns c = ended _ c.args.block c.loop-i._i c.args.n c.loop-i.invariant (omega arith)

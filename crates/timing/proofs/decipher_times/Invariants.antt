@@ -4,4 +4,4 @@ use Rattle.timing.specs.Repeats.{iterated}
 use Rattle.timing.proofs.decipher_times.Given as goal
 
 abbrev pub invariant-loop-i : goal.invariant-loop-i
-invariant-loop-i g l = l.message ≡ iterated l.-i (deciphered (g.C.TweakableCipher.encrypted l.c) (g.C.TweakableCipher.decrypted l.c)) l.initial.message
+invariant-loop-i g l = l.message ≡ iterated l._i (deciphered (g.C.TweakableCipher.encrypted l.c) (g.C.TweakableCipher.decrypted l.c)) l.initial.message

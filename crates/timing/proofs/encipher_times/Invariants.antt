@@ -4,4 +4,4 @@ use Rattle.timing.specs.Repeats.{iterated}
 use Rattle.timing.proofs.encipher_times.Given as goal
 
 abbrev pub invariant-loop-i : goal.invariant-loop-i
-invariant-loop-i g l = l.message ≡ iterated l.-i (enciphered (g.C.TweakableCipher.encrypted l.c)) l.initial.message
+invariant-loop-i g l = l.message ≡ iterated l._i (enciphered (g.C.TweakableCipher.encrypted l.c)) l.initial.message
