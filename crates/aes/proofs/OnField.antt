@@ -1,5 +1,5 @@
 -- The laws of the field that the cipher stands on: sums, bytes, the S-box and its inverse, and the columns.
-use Rattle.std.proofs.Common.{◌≡◌, ℕ, zero, suc, ◌+◌, ◌*◌, ◌/◌, ◌%◌, ◌^◌, ◌<◌, sym, refl, ap, ◌∙◌, ap₂, mul-zero, mul-one, arith}
+use Rattle.std.proofs.Common.{◌≡◌, ℕ, zero, suc, ◌+◌, ◌*◌, ◌/◌, ◌%◌, ◌<◌, sym, refl, ap, ◌∙◌, ap₂, mul-zero, mul-one, arith}
 use lib.Bits.{bit_xor, xor_comm, xor_assoc, xor_self, xor_zero_r, xor_shr, xor_mod, xor_lt}
 use Rattle.block.proofs.Sums.{xor-left, xor-twice, xor_four, xor_two}
 use Rattle.aes.specs.Field.{double, times_bits, times, squares, inverse, affine, inv_affine, sbox, inv_sbox, IsInverse}

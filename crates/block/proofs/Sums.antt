@@ -1,5 +1,5 @@
 -- Sums of blocks and di-blocks: what is added twice is gone, and a sum of blocks is a block.
-use Rattle.std.proofs.Common.{◌≡◌, ℕ, ◌+◌, ◌*◌, ◌^◌, List, [], ◌∷◌, sym, refl, ap, ◌∙◌, ap₂, arith}
+use Rattle.std.proofs.Common.{◌≡◌, ℕ, ◌+◌, ◌*◌, ◌^◌, List, [], ◌∷◌, sym, ap, ◌∙◌, ap₂, arith}
 use lib.Bits.{bit_xor, xor_assoc, xor_comm, xor_self, xor_zero_r, xor_lt, xor_block}
 use Rattle.block.specs.declared.diblock.DiBlock.{DiBlock}
 use Rattle.block.specs.Blocks.{IsBlock, di, add}

@@ -1,5 +1,5 @@
 -- Blocks, di-blocks, and the bytes that they stand for.
-use Rattle.std.specs.Prelude.{ℕ, zero, suc, ◌+◌, ◌-◌, ◌*◌, ◌/◌, ◌%◌, ◌^◌, ◌<◌, List, [], ◌∷◌, ◌++◌, length, take, drop, replicate, bit_xor}
+use Rattle.std.specs.Prelude.{ℕ, zero, suc, ◌/◌, ◌%◌, ◌^◌, ◌<◌, List, [], ◌∷◌, ◌++◌, take, drop, bit_xor}
 use Rattle.std.specs.Int.Digits.{number_from_digits}
 use Rattle.block.specs.declared.diblock.DiBlock.{DiBlock}
 

@@ -1,5 +1,5 @@
 -- A text has one first comma.
-use Rattle.std.proofs.Common.{◌≡◌, ℕ, List, [], ◌∷◌, ◌++◌, length, sym, refl, ap, ◌∙◌, subst, arith}
+use Rattle.std.proofs.Common.{◌≡◌, ℕ, List, [], ◌∷◌, ◌++◌, refl, arith}
 use Rattle.text.specs.Texts.{Free}
 
 pub same_cut : (a b a' b' : List ℕ) → Free a → Free a' → a ++ (44 ∷ b) ≡ a' ++ (44 ∷ b') → (a ≡ a') × (b ≡ b')

@@ -1,8 +1,8 @@
 -- Numbers with commas between them.
-use Rattle.std.proofs.Common.{◌≡◌, ℕ, zero, suc, ◌+◌, ◌-◌, ◌<◌, ◌≤◌, List, [], ◌∷◌, ◌++◌, length, get_or, take, drop, set, decimal, sym, refl, ap, ◌∙◌, subst, append_assoc, add-one, arith}
+use Rattle.std.proofs.Common.{◌≡◌, ℕ, zero, suc, ◌+◌, ◌<◌, List, [], ◌∷◌, ◌++◌, length, get_or, take, drop, set, decimal, sym, refl, ap, ◌∙◌, append_assoc, add-one, arith}
 use Rattle.std.specs.List.{AllByRecursion as All}
 use Rattle.std.proofs.ByRecursion.{All-push, All-get_or}
-use Rattle.std.proofs.lemmas.List.{take_more_set, take_all, length-set, append-nil}
+use Rattle.std.proofs.lemmas.List.{take_more_set, take_all, length-set}
 use Rattle.text.specs.Texts.{Small, Free, listed}
 use Rattle.text.proofs.Cuts.{same_cut, no_cut}
 use Rattle.text.proofs.Digits.{numeral_free, same_numeral}

@@ -1,4 +1,3 @@
-use Rattle.std.proofs.Common.{rules}
 use Rattle.command.specs.Commands.{word_of}
 use Rattle.command.proofs.Distinct.{distinct}
 use Rattle.command.proofs.Parts.{text-parts}
@@ -12,35 +11,35 @@ returns-in_err-word c =
       distinct = distinct;
     }
 
-pub returns-in_err-first : goal.returns-in_err-first
-returns-in_err-first c = record { reads = search rules; distinct = distinct }
+pub returns-in_err-first-clause-distinct : goal.returns-in_err-first-clause-distinct
+returns-in_err-first-clause-distinct c = distinct
 
-pub returns-in_err-number : goal.returns-in_err-number
-returns-in_err-number c = record { reads = search rules; distinct = distinct }
+pub returns-in_err-number-in-Get-clause-distinct : goal.returns-in_err-number-in-Get-clause-distinct
+returns-in_err-number-in-Get-clause-distinct c = distinct
 
-pub returns-in_err-number-2 : goal.returns-in_err-number-2
-returns-in_err-number-2 c = record { reads = search rules; distinct = distinct }
+pub returns-in_err-number-in-Clear-clause-distinct : goal.returns-in_err-number-in-Clear-clause-distinct
+returns-in_err-number-in-Clear-clause-distinct c = distinct
 
-pub returns-in_err-number-3 : goal.returns-in_err-number-3
-returns-in_err-number-3 c = record { reads = search rules; distinct = distinct }
+pub returns-in_err-number-in-Page-clause-distinct : goal.returns-in_err-number-in-Page-clause-distinct
+returns-in_err-number-in-Page-clause-distinct c = distinct
 
-pub returns-in_err-key : goal.returns-in_err-key
-returns-in_err-key c = record { reads = search rules; distinct = distinct }
+pub returns-in_err-key-in-Change-clause-distinct : goal.returns-in_err-key-in-Change-clause-distinct
+returns-in_err-key-in-Change-clause-distinct c = distinct
 
-pub returns-in-Form : goal.returns-in-Form
-returns-in-Form c = record { reads = search rules; distinct = distinct }
+pub returns-in-Form-clause-distinct : goal.returns-in-Form-clause-distinct
+returns-in-Form-clause-distinct c = distinct
 
-pub returns-in-Put : goal.returns-in-Put
-returns-in-Put c = record { reads = search rules; distinct = distinct }
+pub returns-in-Put-clause-distinct : goal.returns-in-Put-clause-distinct
+returns-in-Put-clause-distinct c = distinct
 
-pub returns-in_ok-number : goal.returns-in_ok-number
-returns-in_ok-number c = record { reads = search rules; distinct = distinct }
+pub returns-in_ok-number-in-Get-clause-distinct : goal.returns-in_ok-number-in-Get-clause-distinct
+returns-in_ok-number-in-Get-clause-distinct c = distinct
 
-pub returns-in_ok-number-2 : goal.returns-in_ok-number-2
-returns-in_ok-number-2 c = record { reads = search rules; distinct = distinct }
+pub returns-in_ok-number-in-Clear-clause-distinct : goal.returns-in_ok-number-in-Clear-clause-distinct
+returns-in_ok-number-in-Clear-clause-distinct c = distinct
 
-pub returns-in_ok-number-3 : goal.returns-in_ok-number-3
-returns-in_ok-number-3 c = record { reads = search rules; distinct = distinct }
+pub returns-in_ok-number-in-Page-clause-distinct : goal.returns-in_ok-number-in-Page-clause-distinct
+returns-in_ok-number-in-Page-clause-distinct c = distinct
 
-pub returns-in_ok-key : goal.returns-in_ok-key
-returns-in_ok-key c = record { reads = search rules; distinct = distinct }
+pub returns-in_ok-key-in-Change-clause-distinct : goal.returns-in_ok-key-in-Change-clause-distinct
+returns-in_ok-key-in-Change-clause-distinct c = distinct

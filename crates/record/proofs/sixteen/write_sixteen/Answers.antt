@@ -1,4 +1,4 @@
-use Rattle.std.proofs.Common.{◌≡◌, suc, ◌+◌, ◌*◌, ◌/◌, ◌%◌, ◌∷◌, ◌++◌, take, drop, set, ap, ◌∙◌, ap₂, add-one, arith}
+use Rattle.std.proofs.Common.{◌≡◌, suc, ◌+◌, ◌*◌, ◌/◌, ◌%◌, ◌++◌, take, drop, set, ap, ◌∙◌, ap₂, add-one, arith}
 use Rattle.record.specs.Numbers.{set_two, bytes_two}
 use Rattle.record.proofs.sixteen.write_sixteen.Goals as goal
 

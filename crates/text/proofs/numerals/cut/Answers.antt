@@ -1,4 +1,4 @@
-use Rattle.std.proofs.Common.{◌≡◌, ◌<◌, length, arith}
+use Rattle.std.proofs.Common.{◌<◌, length, arith}
 use Rattle.text.proofs.Digits.{cut_at, cut_none}
 use Rattle.text.proofs.numerals.cut.Goals as goal
 

@@ -1,4 +1,4 @@
-use Rattle.std.proofs.Common.{◌≡◌, ℕ, ◌+◌, ◌-◌, ◌<◌, length, subst, arith}
+use Rattle.std.proofs.Common.{◌≡◌, ◌+◌, ◌-◌, length, subst, arith}
 use Rattle.text.proofs.Listing.{Reading, reading_none, reading_more, uncut, unread, unended, reading-all}
 use Rattle.text.proofs.numerals.numbers.Goals as goal
 

@@ -1,4 +1,4 @@
-use Rattle.std.proofs.Common.{◌≡◌, ◌+◌, ◌*◌, drop, sym, ap, ◌∙◌, ap₂}
+use Rattle.std.proofs.Common.{◌*◌, sym, ap, ◌∙◌, ap₂}
 use Rattle.std.proofs.lemmas.List.{drop-drop}
 use Rattle.block.specs.Blocks.{di, block}
 use Rattle.block.proofs.diblock.DiBlock.read.Goals as goal
