@@ -14,6 +14,7 @@ import sys
 
 HEAD = re.compile(r'^\s*(?:abbrev |unfoldable |pub |instance )*([^\s:(){}]+) : ')
 FUNCTION = re.compile(r'^(?:abbrev |unfoldable )(?:pub )?([^\s:(){}]+) : ')
+ALIAS = re.compile(r'[^\s(){}\[\];,.]+ as ([a-z][A-Za-z]*)(?=[,}])')
 WORD = re.compile(r"[^\s(){}\[\];,.\"`|⌜⌝]+")
 
 # Words of the library that lemmas are named after.
@@ -41,6 +42,9 @@ CHOSEN = {
     'decipher-message': 'deciphered_message',
     'encipher-message': 'enciphered_message',
     'by-test': 'by_the_test',
+    'ofPage': 'page_answer',
+    'ofStore': 'store_answer',
+    'length-round_keys': 'length-round_keys',
     'under-getD': 'under_slice_index',
 }
 
@@ -48,7 +52,7 @@ CHOSEN = {
 def defined(paths, head=HEAD):
     names = set()
     for path in paths:
-        if path.endswith(('/Answers.antt', '/Invariants.antt', '/Proof.antt')):
+        if '/proofs/' in path and path.endswith(('/Answers.antt', '/Invariants.antt', '/Proof.antt')):
             continue
         for line in open(path, encoding='utf-8'):
             found = head.match(line)
@@ -93,6 +97,9 @@ def main():
         for path in files() + glob.glob('crates/*/src/**/*.rt', recursive=True):
             text = open(path, encoding='utf-8').read()
             new = WORD.sub(lambda m: renamed.get(m.group(0), m.group(0)), text)
+            aliases = {a: snake(a) for a in ALIAS.findall(new) if snake(a) != a}
+            if not any(b in WORD.findall(new) for b in aliases.values()):
+                new = WORD.sub(lambda m: aliases.get(m.group(0), m.group(0)), new)
             if new != text:
                 open(path, 'w', encoding='utf-8').write(new)
     return 0

@@ -1,7 +1,7 @@
 // The key schedule of AES-128.
 ghost use Rattle.std.specs.Prelude.{◌≡◌, map};
 ghost use Rattle.block.specs.Blocks.{bytes};
-ghost use Rattle.aes.specs.Field.{double as doubleOf};
+ghost use Rattle.aes.specs.Field.{double as double_of};
 ghost use Rattle.aes.specs.Aes.{on_column, inv_mixed_columns, key_after};
 ghost use Rattle.aes.specs.Words.{state, keys_of_rounds};
 
@@ -11,7 +11,7 @@ use block::diblock::Block;
 
 // The byte times x in the field: the next round constant.
 fn double(x: u8) -> u8
-    ensures { result ≡ doubleOf x }
+    ensures { result ≡ double_of x }
 {
     (x << 1) ^ (27 * (x >> 7))
 }

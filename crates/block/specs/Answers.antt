@@ -11,6 +11,6 @@ answered numbers (Ok x) = accepted x
 answered numbers (Err e) = refused (numbers e)
 
 -- the same, where only a part of the value is told
-abbrev pub answeredAs : {T U E : Type 0} → (T → U) → (E → List ℕ) → Result T E → Answer U
-answeredAs part numbers (Ok x) = accepted (part x)
-answeredAs part numbers (Err e) = refused (numbers e)
+abbrev pub answered_as : {T U E : Type 0} → (T → U) → (E → List ℕ) → Result T E → Answer U
+answered_as part numbers (Ok x) = accepted (part x)
+answered_as part numbers (Err e) = refused (numbers e)

@@ -2,7 +2,7 @@
 ghost use Rattle.std.specs.Prelude.{◌≡◌, ℕ, ◌+◌, ◌*◌, ◌≤◌, length, drop};
 ghost use Rattle.std.specs.Int.Digits.{number_from_digits, AllBelowBase};
 ghost use Rattle.block.specs.Blocks.{bytes as bytes_of, block as block_of, add};
-ghost use Rattle.block.specs.Places.{at as diAt, put as put_at};
+ghost use Rattle.block.specs.Places.{at as di_at, put as put_at};
 
 use crate::diblock::{Block, DiBlock};
 use std::ops::BitXor;
@@ -28,7 +28,7 @@ impl DiBlock {
     // The di-block at place i of a message, from 0.
     pub fn read(m: &[u8], i: usize) -> DiBlock
         requires { 32 * i + 32 ≤ length m.now }
-        ensures { result ≡ diAt m.now i }
+        ensures { result ≡ di_at m.now i }
     {
         let at = 32 * i;
         DiBlock {

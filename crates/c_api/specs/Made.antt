@@ -13,7 +13,7 @@ use Rattle.calls.specs.Calls as calls
 use Rattle.c_api.specs.declared.answer.Answer.{Answer}
 use Rattle.c_api.specs.declared.answer.Refusal.{Refusal}
 use Rattle.c_api.specs.declared.answer.Refusal.TheVariants as why
-use Rattle.c_api.specs.Answers.{yes, no, refused, done, told, foundOr}
+use Rattle.c_api.specs.Answers.{yes, no, refused, done, told, found_or}
 use Rattle.c_api.specs.Opens.{Keyed, Shaped, Unkeyed, Barred}
 
 abbrev pub Forms : {R : Type 0} → kind.Ghosts R → Geometry → AnyCipher → List ℕ → List ℕ → Answer → Type 0
@@ -30,7 +30,7 @@ Clears 𝓇 g c m slot m' a = (q : Result (Unit {0}) store.Refusal) × calls.Put
 -- get: the fields of what was found go to f', in place of f
 abbrev pub Gets : {R F : Type 0} → kind.Ghosts R → (R → F) → Geometry → AnyCipher → List ℕ → ℕ → List ℕ → F → List ℕ → F → Answer → Type 0
 Gets {R} 𝓇 fields g c m slot w f w' f' a =
-    (q : Result (Option R) store.Refusal) × calls.Got any.ghosts 𝓇 g c m slot w w' q × (f' ≡ foundOr fields q f) × (a ≡ told q)
+    (q : Result (Option R) store.Refusal) × calls.Got any.ghosts 𝓇 g c m slot w w' q × (f' ≡ found_or fields q f) × (a ≡ told q)
 
 -- change, to the cipher `to`
 abbrev pub Changes : {R : Type 0} → kind.Ghosts R → Geometry → AnyCipher → List ℕ → AnyCipher → List ℕ → List ℕ → List ℕ → Answer → Type 0

@@ -2,7 +2,7 @@
 ghost use Rattle.std.specs.Prelude.{◌≡◌, Ok};
 ghost use Rattle.record.specs.Parameters.{making};
 ghost use Rattle.record.specs.contracts.parameters.making.ParameterSetRecord.TheImpl as kind;
-ghost use Rattle.c_api.specs.Answers.{told, foundOr};
+ghost use Rattle.c_api.specs.Answers.{told, found_or};
 ghost use Rattle.c_api.specs.Made.{Forms, Puts, Clears, Gets, Changes, Called, CalledTo};
 
 use crate::answer::Answer;
@@ -68,7 +68,7 @@ pub extern "C" fn dikhelwa_parameters_clear(
 
 // What was found, if anything: its fields go to `parameters`.
 fn tell_found(found: Option<ParameterSet>, parameters: &mut ParameterFields) -> Answer
-    ensures fields { parameters.new ≡ foundOr (λ s. s.fields) (Ok found) parameters.old }
+    ensures fields { parameters.new ≡ found_or (λ s. s.fields) (Ok found) parameters.old }
     ensures answer { result ≡ told (Ok found) }
 {
     match found {
@@ -81,7 +81,7 @@ fn tell_found(found: Option<ParameterSet>, parameters: &mut ParameterFields) -> 
 }
 
 fn tell(res: Result<Option<ParameterSet>, StoreRefusal>, parameters: &mut ParameterFields) -> Answer
-    ensures fields { parameters.new ≡ foundOr (λ s. s.fields) res parameters.old }
+    ensures fields { parameters.new ≡ found_or (λ s. s.fields) res parameters.old }
     ensures answer { result ≡ told res }
 {
     match res {

@@ -29,7 +29,7 @@ fn no(number: u32, slot: u32, field: u32) -> Answer
 }
 
 fn of_page(fault: SlotFault) -> Answer
-    ensures { result ≡ answers.ofPage fault.slot fault.fault }
+    ensures { result ≡ answers.page_answer fault.slot fault.fault }
 {
     let slot = fault.slot as u32;
     match fault.fault {
@@ -39,7 +39,7 @@ fn of_page(fault: SlotFault) -> Answer
 }
 
 pub fn of_store(refusal: StoreRefusal) -> Answer
-    ensures { result ≡ answers.ofStore refusal }
+    ensures { result ≡ answers.store_answer refusal }
 {
     match refusal {
         StoreRefusal::Memory => no(3, 0, 0),

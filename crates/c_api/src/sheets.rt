@@ -2,7 +2,7 @@
 ghost use Rattle.std.specs.Prelude.{◌≡◌, Ok};
 ghost use Rattle.record.specs.Sheets.{making};
 ghost use Rattle.record.specs.contracts.sheet.making.SheetRecord.TheImpl as kind;
-ghost use Rattle.c_api.specs.Answers.{told, foundOr};
+ghost use Rattle.c_api.specs.Answers.{told, found_or};
 ghost use Rattle.c_api.specs.Made.{Forms, Puts, Clears, Gets, Changes, Called, CalledTo};
 
 use crate::answer::Answer;
@@ -68,7 +68,7 @@ pub extern "C" fn dikhelwa_sheet_clear(
 
 // What was found, if anything: its fields go to `sheet`.
 fn tell_found(found: Option<Sheet>, sheet: &mut SheetFields) -> Answer
-    ensures fields { sheet.new ≡ foundOr (λ s. s.fields) (Ok found) sheet.old }
+    ensures fields { sheet.new ≡ found_or (λ s. s.fields) (Ok found) sheet.old }
     ensures answer { result ≡ told (Ok found) }
 {
     match found {
@@ -81,7 +81,7 @@ fn tell_found(found: Option<Sheet>, sheet: &mut SheetFields) -> Answer
 }
 
 fn tell(res: Result<Option<Sheet>, StoreRefusal>, sheet: &mut SheetFields) -> Answer
-    ensures fields { sheet.new ≡ foundOr (λ s. s.fields) res sheet.old }
+    ensures fields { sheet.new ≡ found_or (λ s. s.fields) res sheet.old }
     ensures answer { result ≡ told res }
 {
     match res {

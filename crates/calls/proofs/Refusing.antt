@@ -5,13 +5,12 @@ use Rattle.cipher.specs.declared.tweakable.TweakableCipher as cipher
 use Rattle.record.specs.declared.kind.Record as kind
 use Rattle.page.specs.declared.fault.PageFault.{PageFault}
 use Rattle.page.specs.declared.fault.PageFault.TheVariants.{Head, Record}
-use Rattle.page.specs.declared.fault.SlotFault.{SlotFault}
 use Rattle.page.specs.Pages as pages
 use Rattle.calls.specs.declared.geometry.Geometry.{Geometry}
 use Rattle.calls.specs.declared.refusal.Refusal.{Refusal}
 use Rattle.calls.specs.declared.refusal.Refusal.TheVariants.{Memory, Slot, Buffer, Page}
 use Rattle.calls.specs.Memory.{Sized}
-use Rattle.calls.specs.Calls.{said, Why, WhyAll, Formed, Put, Got, Changed}
+use Rattle.calls.specs.Calls.{said, Formed, Put, Got, Changed}
 use Rattle.calls.specs.Refused.{refused_by, by_memory, by_slot, by_buffer, by_page, or_else, first_of, Numbered}
 
 memory_fits : (g : Geometry) (m after : List ℕ) → Sized g m → by_memory g m after ≡ after

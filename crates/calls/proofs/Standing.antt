@@ -1,9 +1,9 @@
 -- What holds after every list of calls.
-use Rattle.std.proofs.Common.{◌≡◌, ℕ, ◌<◌, ◌≤◌, cond, eqb, List, [], ◌∷◌, length, get_or, Some, None, Ok, Err, Option, Result, sym, refl, ap, ◌∙◌, subst, ⊎_elim, arith}
+use Rattle.std.proofs.Common.{◌≡◌, ℕ, ◌<◌, ◌≤◌, cond, eqb, List, ◌∷◌, length, get_or, Some, None, Ok, Err, Option, Result, sym, refl, ap, ◌∙◌, subst, ⊎_elim, arith}
 use Rattle.std.proofs.lemmas.Bool.{cond-true, cond-false, ne_eqb, eq-eqb, cases_eq}
 use Rattle.cipher.specs.declared.tweakable.TweakableCipher as cipher
 use Rattle.record.specs.declared.kind.Record as kind
-use Rattle.mode.specs.Permutes.{enciphered, deciphered}
+use Rattle.mode.specs.Permutes.{deciphered}
 use Rattle.mode.proofs.Whole.{enciphered_back}
 use Rattle.mode.proofs.Agree.{enciphered_agree}
 use Rattle.page.specs.declared.fault.SlotFault.{SlotFault}
@@ -12,8 +12,8 @@ use Rattle.calls.specs.declared.geometry.Geometry.{Geometry}
 use Rattle.calls.specs.declared.refusal.Refusal.{Refusal}
 use Rattle.calls.specs.declared.refusal.Refusal.TheVariants.{Memory, Slot, Buffer, Page}
 use Rattle.calls.specs.Memory.{page, Sized, Only}
-use Rattle.calls.specs.Calls.{sealed, said, Why, WhyAll, Formed, Put, Got, Changed}
-use Rattle.calls.specs.Runs.{Call, form, put, get, clear, change, handed, left, Does, Ran, begins, goes_on, elsewhere, after, content, refusal, Sound, Held, Holds, Same, Determined, Law}
+use Rattle.calls.specs.Calls.{sealed, said, Why, WhyAll, Got}
+use Rattle.calls.specs.Runs.{Call, form, put, get, clear, change, handed, left, Does, Ran, begins, goes_on, elsewhere, after, content, refusal, Sound, Holds, Same, Determined, Law}
 use Rattle.calls.proofs.Placing.{same_pages}
 use Rattle.calls.proofs.Refusing.{numbered}
 use Rattle.calls.proofs.Plain.{Laws, tells, plain_message}

@@ -1,6 +1,6 @@
 -- What each call of the store promises, by its answer. The memory is m before and m' after, the working buffer b and
 -- b', and the store holds the cipher c.
-use Rattle.std.specs.Prelude.{◌≡◌, ℕ, ◌<◌, ◌≤◌, List, [], ◌∷◌, length, Some, None, Ok, Err, Option, Result, ◌≢◌}
+use Rattle.std.specs.Prelude.{◌≡◌, ℕ, ◌<◌, ◌≤◌, List, [], ◌∷◌, length, None, Ok, Err, Option, Result, ◌≢◌}
 use Rattle.cipher.specs.declared.tweakable.TweakableCipher as cipher
 use Rattle.record.specs.declared.kind.Record as kind
 use Rattle.mode.specs.Permutes.{enciphered, deciphered}

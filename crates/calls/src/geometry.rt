@@ -1,5 +1,5 @@
 ghost use Rattle.std.specs.Prelude.{◌≡◌, ◌+◌, ◌*◌, ◌<◌, ◌≤◌};
-ghost use Rattle.block.specs.Answers.{answeredAs};
+ghost use Rattle.block.specs.Answers.{answered_as};
 ghost use Rattle.calls.specs.Shapes.{numbers, answer};
 
 use shape::GeometryFault;
@@ -17,7 +17,7 @@ pub struct Geometry {
 impl Geometry {
     // 1 to 64 slots of 64 to 4,096 bytes.
     pub fn new(slots: usize, page: usize) -> Result<Geometry, GeometryFault>
-        ensures { answeredAs (λ g. (g.slots, g.page)) numbers result ≡ answer slots page }
+        ensures { answered_as (λ g. (g.slots, g.page)) numbers result ≡ answer slots page }
     {
         if slots < 1 || slots > 64 || page < 64 || page > 4096 {
             return Err(GeometryFault);

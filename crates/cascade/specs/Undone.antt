@@ -8,7 +8,7 @@ use Rattle.aes.specs.Aes.{aes_encrypted, aes_decrypted}
 use Rattle.aes.proofs.Inverse.{inverses, encrypted_block, decrypted_block}
 use Rattle.cascade.specs.Cascade.{cascade_encrypted, cascade_decrypted}
 
-undone : (f g : ℕ → ℕ) → ((x : ℕ) → IsBlock (f x)) → ((x : ℕ) → IsBlock x → g (f x) ≡ x) → (a b x : ℕ) → IsBlock a → IsBlock b → IsBlock x
+pub undone : (f g : ℕ → ℕ) → ((x : ℕ) → IsBlock (f x)) → ((x : ℕ) → IsBlock x → g (f x) ≡ x) → (a b x : ℕ) → IsBlock a → IsBlock b → IsBlock x
     → g (bit_xor a (g (bit_xor b (g (f (bit_xor b (f (bit_xor a (f x))))))))) ≡ x
 undone f g fits back a b x p q r =
     let y = bit_xor a (f x) in

@@ -1,6 +1,6 @@
 -- The text of a command: its word, a comma, and its arguments with commas between them.
 use Rattle.std.specs.Prelude.{◌≡◌, ℕ, List, ◌∷◌, ◌++◌, codes, decimal}
-use Rattle.std.specs.List.{AllByRecursion as All}
+use Rattle.std.specs.List.{AllByRecursion}
 use Rattle.block.specs.Blocks.{IsBlock, bytes}
 use Rattle.text.specs.Texts.{Small, listed, hex}
 use Rattle.record.specs.declared.fields.SheetFields.{SheetFields}
@@ -52,7 +52,7 @@ abbrev pub text : Command → List ℕ
 text c = spelt (word_of c) ++ (44 ∷ arguments c)
 
 abbrev pub Seven : SheetFields → Type 0
-Seven fields = All Small (list_of fields)
+Seven fields = AllByRecursion Small (list_of fields)
 
 abbrev pub IsKey : ℕ → Type 0
 IsKey key = IsBlock key

@@ -3,7 +3,7 @@ use Rattle.std.proofs.Common.{◌≡◌, ℕ, ◌-◌, ◌*◌, ◌<◌, ◌≤�
 use Rattle.std.proofs.lemmas.List.{take_all, take_at, drop_all, drop_at, length-take-le}
 use Rattle.std.proofs.lemmas.Bool.{cases_lt}
 use Rattle.std.specs.Option.{option_map}
-use Rattle.block.specs.Answers.{answeredAs}
+use Rattle.block.specs.Answers.{answered_as}
 use Rattle.record.specs.contracts.sheet.making.SheetRecord.TheImpl as sheet
 use Rattle.ciphers.specs.declared.name.CipherName.{CipherName}
 use Rattle.ciphers.specs.declared.any.AnyCipher.{AnyCipher}
@@ -61,14 +61,14 @@ fits : (size end : ℕ) (m : List ℕ) (g h : Geometry) → h ≡ g → size ≡
 fits size end m g h same size_is end_is = end_is ∙ ap (λ n. min n (length m)) (size_is ∙ ap (λ k. k.slots * k.page) (sym same))
 
 module _ (m x w : List ℕ) (size end : ℕ) (s : Store AnyCipher) (g : Geometry) (same : s.geometry ≡ g) (size_is : size ≡ g.slots * g.page) (end_is : end ≡ min size (length m)) (long : length x ≡ length (take (end - 0) m)) where
-  pub formed : (former : Option (Store AnyCipher)) (c : AnyCipher) (name : CipherName) (n p : ℕ) (q : Result (Unit {0}) Refusal) → s.cipher ≡ c → Under name 0 c → answeredAs (λ g. (g.slots, g.page)) shapes.numbers (Ok g) ≡ shapes.answer n p
+  pub formed : (former : Option (Store AnyCipher)) (c : AnyCipher) (name : CipherName) (n p : ℕ) (q : Result (Unit {0}) Refusal) → s.cipher ≡ c → Under name 0 c → answered_as (λ g. (g.slots, g.page)) shapes.numbers (Ok g) ≡ shapes.answer n p
       → Formed any.ghosts sheet.ghosts s.geometry s.cipher (take (end - 0) m) x q → Does (state former m w) (Form name n p) (state (formed_after q s former) (x ++ drop (end - 0) m) w) (done q)
   formed former c name n p q c-is under made does =
       let f = front (s.geometry.slots * s.geometry.page) end m x (fits size end m g s.geometry same size_is end_is) long in
       let moved : Formed any.ghosts sheet.ghosts s.geometry s.cipher (used s.geometry m) (used s.geometry (x ++ drop (end - 0) m)) q =
       subst (λ y. Formed any.ghosts sheet.ghosts s.geometry s.cipher (used s.geometry m) y q) (sym f.here)
       (subst (λ y. Formed any.ghosts sheet.ghosts s.geometry s.cipher y x q) f.before does) in
-      (Ok s.geometry, ap (λ h. answeredAs (λ h. (h.slots, h.page)) shapes.numbers (Ok h)) same ∙ made, (s.cipher, subst (Under name 0) (sym c-is) under, (q, moved, held q, refl), f.behind, refl))
+      (Ok s.geometry, ap (λ h. answered_as (λ h. (h.slots, h.page)) shapes.numbers (Ok h)) same ∙ made, (s.cipher, subst (Under name 0) (sym c-is) under, (q, moved, held q, refl), f.behind, refl))
     where
       held : (q : Result (Unit {0}) Refusal) → option_map formed_of (formed_after q s former) ≡ after q (formed_of s) (option_map formed_of former)
       held (Ok _) = refl

@@ -1,8 +1,8 @@
 -- A line's answer in the caller's buffer.
 use Rattle.std.specs.Prelude.{ℕ, List}
 use Rattle.writer.specs.Writes.{Written}
-use Rattle.session.specs.Answers.{Answer, answerText}
+use Rattle.session.specs.Answers.{Answer, answer_text}
 
 -- the text of an answer of which P holds was written from the front of the buffer on, and is `end` bytes long
 abbrev pub Says : (Answer → Type 0) → List ℕ → List ℕ → ℕ → Type 0
-Says P out out' end = (a : Answer) × P a × Written out 0 (answerText a) out' end
+Says P out out' end = (a : Answer) × P a × Written out 0 (answer_text a) out' end

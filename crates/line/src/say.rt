@@ -4,7 +4,7 @@ ghost use Rattle.text.specs.Texts.{listed};
 ghost use Rattle.page.specs.Pages as pages;
 ghost use Rattle.calls.specs.Calls as calls;
 ghost use Rattle.writer.specs.Writes.{Written};
-ghost use Rattle.session.specs.Answers.{answerText, replied, refusalNumbers};
+ghost use Rattle.session.specs.Answers.{answer_text, replied, refusal_numbers};
 
 use calls::refusal::Refusal as StoreRefusal;
 use page::fault::{PageFault, SlotFault};
@@ -40,7 +40,7 @@ fn say_store_refusal(out: &mut [u8], at: usize, refusal: StoreRefusal) -> usize
 // The numbers of any refusal.
 fn say_numbers(out: &mut [u8], at: usize, refusal: Refusal) -> usize
     requires { at + 33 ≤ length out.old }
-    ensures { Written out.old at (listed (refusalNumbers refusal)) out.new result }
+    ensures { Written out.old at (listed (refusal_numbers refusal)) out.new result }
 {
     match refusal {
         Refusal::Line => numbers(out, at, &[9]),
@@ -52,7 +52,7 @@ fn say_numbers(out: &mut [u8], at: usize, refusal: Refusal) -> usize
 
 fn say_refusal(out: &mut [u8], refusal: Refusal) -> usize
     requires { 36 ≤ length out.old }
-    ensures { Written out.old 0 (codes "no," ++ listed (refusalNumbers refusal)) out.new result }
+    ensures { Written out.old 0 (codes "no," ++ listed (refusal_numbers refusal)) out.new result }
 {
     let at = word(out, 0, b"no,");
     say_numbers(out, at, refusal)
@@ -60,7 +60,7 @@ fn say_refusal(out: &mut [u8], refusal: Refusal) -> usize
 
 fn say_reply(out: &mut [u8], reply: Reply) -> usize
     requires { 77 ≤ length out.old }
-    ensures { Written out.old 0 (answerText (replied (Ok reply))) out.new result }
+    ensures { Written out.old 0 (answer_text (replied (Ok reply))) out.new result }
 {
     match reply {
         Reply::Done => word(out, 0, b"ok"),
@@ -71,7 +71,7 @@ fn say_reply(out: &mut [u8], reply: Reply) -> usize
 
 pub fn say(out: &mut [u8], answer: Result<Reply, Refusal>) -> usize
     requires { 77 ≤ length out.old }
-    ensures { Written out.old 0 (answerText (replied answer)) out.new result }
+    ensures { Written out.old 0 (answer_text (replied answer)) out.new result }
 {
     match answer {
         Ok(reply) => say_reply(out, reply),

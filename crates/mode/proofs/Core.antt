@@ -1,6 +1,6 @@
 -- Steps 2 to 6 and their reverse undo each other, and so do both on the parts of a message. Each pair is one schema,
 -- a layer, a mix with sums, a mask, a layer and a close with sums, and is shown once.
-use Rattle.std.proofs.Common.{◌≡◌, ℕ, zero, suc, ◌+◌, ◌-◌, ◌/◌, ◌%◌, ◌^◌, List, [], ◌∷◌, ◌++◌, map, length, replicate, sym, refl, ap, ◌∙◌, ap₂, arith}
+use Rattle.std.proofs.Common.{◌≡◌, ℕ, zero, suc, ◌+◌, ◌-◌, ◌/◌, List, [], ◌∷◌, ◌++◌, length, replicate, ap, ◌∙◌, ap₂, arith}
 use Prim.Native.String.{String}
 use lib.Bits.{bit_xor}
 use Rattle.std.specs.Int.Digits.{AllBelowBase}

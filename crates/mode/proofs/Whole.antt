@@ -1,13 +1,12 @@
 -- Enciphering and deciphering undo each other on every message, and so exactly one message enciphers to each.
-use Rattle.std.proofs.Common.{◌≡◌, ℕ, ◌+◌, ◌*◌, ◌%◌, ◌^◌, ◌<◌, ◌≤◌, Bool, true, false, cond, ◌&&◌, leb, ◌⊎◌, List, length, sym, ap, ◌∙◌, ap₂, ⊎_elim, arith}
-use Prim.Native.String.{String}
+use Rattle.std.proofs.Common.{◌≡◌, ℕ, ◌+◌, ◌*◌, ◌<◌, ◌≤◌, true, false, leb, ◌⊎◌, List, length, sym, ap, ◌∙◌, ap₂, ⊎_elim, arith}
 use Rattle.std.specs.Int.Digits.{AllBelowBase}
 use Rattle.std.proofs.lemmas.Bool.{le-leb, lt-leb, and_from, and_left, and_right, cond-true, cond-false}
 use Rattle.block.specs.Blocks.{IsBlock}
 use Rattle.cipher.specs.Tweaks.{head_of, tweaked}
 use Rattle.mode.specs.Parts.{Parts, split, join}
 use Rattle.mode.specs.Mode.{encipher_parts, decipher_parts, encipher, decipher}
-use Rattle.mode.specs.Permutes.{admitted, enciphered, deciphered, Message, ExactlyOne, Permutes}
+use Rattle.mode.specs.Permutes.{admitted, enciphered, deciphered, Message, Permutes}
 use Rattle.mode.proofs.Layers.{length-onto}
 use Rattle.mode.proofs.Partition.{Good, split_good, join-split, split-join, length-join, under_join}
 use Rattle.mode.proofs.Core.{Inverse, parts_back, parts-forth, encipher_good, decipher_good, core_length, uncore_length}

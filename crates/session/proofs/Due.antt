@@ -2,7 +2,7 @@
 use Rattle.std.proofs.Common.{◌≡◌, ℕ, ◌*◌, ◌<◌, ◌≤◌, min, Bool, true, false, cond, eqb, ltb, leb, List, [], ◌∷◌, length, get_or, Some, None, Ok, Err, Option, Result, sym, refl, ap, ◌∙◌, subst, ⊎_elim, arith}
 use Rattle.std.proofs.lemmas.List.{length-take}
 use Rattle.std.proofs.lemmas.Bool.{cond-true, cond-false, lt-ltb, le-ltb, le-leb, lt-leb, eq-eqb, cases_lt}
-use Rattle.block.specs.Answers.{answeredAs}
+use Rattle.block.specs.Answers.{answered_as}
 use Rattle.block.specs.Answers as block
 use Rattle.record.specs.declared.sheet.Sheet.{Sheet}
 use Rattle.record.specs.declared.fault.FieldFault.{FieldFault}
@@ -147,7 +147,7 @@ not_by_test : {T U : Type 0} (x : T) (ns ms : List ℕ) (b : Bool) (a d : U) →
 not_by_test x ns ms false a d h = refl
 not_by_test x ns ms true a d h = let z : ◌≡◌ {A = ℕ} 0 1 = cc in absurd (omega arith)
 
-forms_answer : (s s' : State) (name : CipherName) (n p : ℕ) (made : Result Geometry GeometryFault) (a : Answer) → length s.memory ≡ 32768 → answeredAs (λ g. (g.slots, g.page)) shapes.numbers made ≡ shapes.answer n p
+forms_answer : (s s' : State) (name : CipherName) (n p : ℕ) (made : Result Geometry GeometryFault) (a : Answer) → length s.memory ≡ 32768 → answered_as (λ g. (g.slots, g.page)) shapes.numbers made ≡ shapes.answer n p
     → Forms s name made s' a → a ≡ form_due n p
 forms_answer s s' name n p (Err e) a long is h =
     let x : ℕ × ℕ = (n, p) in

@@ -2,7 +2,7 @@
 use Rattle.std.proofs.Common.{◌≡◌, ℕ, ◌+◌, ◌-◌, ◌*◌, ◌<◌, ◌≤◌, Bool, true, false, cond, eqb, List, [], ◌∷◌, ◌++◌, length, take, drop, Some, None, Ok, Err, Option, Result, sym, refl, ap, ◌∙◌, subst, arith, length-append, length-drop}
 use lib.ListN.{length-replicate}
 use Rattle.std.proofs.lemmas.List.{take-append-drop}
-use Rattle.block.specs.Answers.{answeredAs}
+use Rattle.block.specs.Answers.{answered_as}
 use Rattle.block.specs.Answers as block
 use Rattle.record.specs.declared.sheet.Sheet.{Sheet}
 use Rattle.record.specs.declared.fault.FieldFault.{FieldFault}
@@ -251,14 +251,14 @@ pub accepts : {T : Type 0} (x y : T) (ns : List ℕ) (b : Bool) → block.accept
 accepts x y ns true e = cc
 accepts x y ns false e = let z : ◌≡◌ {A = ℕ} 0 1 = cc in absurd (omega arith)
 
-pub shape : (g : Geometry) (n p : ℕ) → answeredAs (λ g. (g.slots, g.page)) shapes.numbers (Ok g) ≡ shapes.answer n p → (g.slots ≡ n) × (g.page ≡ p)
+pub shape : (g : Geometry) (n p : ℕ) → answered_as (λ g. (g.slots, g.page)) shapes.numbers (Ok g) ≡ shapes.answer n p → (g.slots ≡ n) × (g.page ≡ p)
 shape g n p e =
     let mine : ℕ × ℕ = (g.slots, g.page) in
     let asked : ℕ × ℕ = (n, p) in
     let same = accepts mine asked (2 ∷ []) (shapes.admitted n p) e in
     (ap (λ (x : ℕ × ℕ). x.0) same, ap (λ (x : ℕ × ℕ). x.1) same)
 
-form_carries : (es : List Event) (e : Event) (s s' : State) (name : CipherName) (n p : ℕ) (made : Result Geometry GeometryFault) → e.asked ≡ Some (Form name n p) → answeredAs (λ g. (g.slots, g.page)) shapes.numbers made ≡ shapes.answer n p
+form_carries : (es : List Event) (e : Event) (s s' : State) (name : CipherName) (n p : ℕ) (made : Result Geometry GeometryFault) → e.asked ≡ Some (Form name n p) → answered_as (λ g. (g.slots, g.page)) shapes.numbers made ≡ shapes.answer n p
     → Forms s name made s' e.answer → Whole es s → Whole (e ∷ es) s'
 form_carries es e s s' name n p (Err f) asked is h r = idle es e s s' h.0 (rw (asked, h.1) refl) (λ k. rw (asked, h.1) refl) r
 form_carries es e s s' name n p (Ok g) asked is h r =

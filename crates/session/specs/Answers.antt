@@ -20,26 +20,26 @@ pub data Answer : Type 0 where
   stored : List ℕ → Answer
   no : List ℕ → Answer
 
-abbrev pub answerText : Answer → List ℕ
-answerText ok = codes "ok"
-answerText none = codes "none"
-answerText (numbers ns) = listed ns
-answerText (stored bytes) = hex bytes
-answerText (no ns) = codes "no," ++ listed ns
+abbrev pub answer_text : Answer → List ℕ
+answer_text ok = codes "ok"
+answer_text none = codes "none"
+answer_text (numbers ns) = listed ns
+answer_text (stored bytes) = hex bytes
+answer_text (no ns) = codes "no," ++ listed ns
 
 -- each refusal's number and values
-abbrev pub refusalNumbers : Refusal → List ℕ
-refusalNumbers refusal.Line = 9 ∷ []
-refusalNumbers (refusal.Geometry e) = shapes.numbers e
-refusalNumbers (refusal.Sheet e) = makings.numbers e
-refusalNumbers (refusal.Store e) = calls.numbers e
+abbrev pub refusal_numbers : Refusal → List ℕ
+refusal_numbers refusal.Line = 9 ∷ []
+refusal_numbers (refusal.Geometry e) = shapes.numbers e
+refusal_numbers (refusal.Sheet e) = makings.numbers e
+refusal_numbers (refusal.Store e) = calls.numbers e
 
 -- what the code answers, in these words
 abbrev pub replied : Result Reply Refusal → Answer
 replied (Ok Done) = ok
 replied (Ok Empty) = none
 replied (Ok (Found s)) = numbers (list_of s.fields)
-replied (Err e) = no (refusalNumbers e)
+replied (Err e) = no (refusal_numbers e)
 
 -- the answer to a call of the store: one that only tells that it is done, and one that tells what it found
 abbrev pub done : Result (Unit {0}) store.Refusal → Answer

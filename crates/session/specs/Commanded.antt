@@ -1,7 +1,7 @@
 -- What each command does and is answered, by the calls of the store (m, w and c are the store's memory, the working
 -- buffer and the cipher before it, and m', w' and c' after it).
 use Rattle.std.specs.Prelude.{◌≡◌, ℕ, List, [], ◌∷◌, Some, None, Ok, Err, Option, Result}
-use Rattle.block.specs.Answers.{answeredAs}
+use Rattle.block.specs.Answers.{answered_as}
 use Rattle.record.specs.declared.sheet.Sheet.{Sheet}
 use Rattle.record.specs.declared.fault.FieldFault.{FieldFault}
 use Rattle.record.specs.Sheets.{making}
@@ -76,7 +76,7 @@ On s (Some f) x s' a = OnFormed s f.geometry f.cipher x s' a
 -- a command, whatever is held
 abbrev pub Does : State → Command → State → Answer → Type 0
 Does s (command.Form name n p) s' a =
-    (r : Result Geometry GeometryFault) × (answeredAs (λ g. (g.slots, g.page)) shapes.numbers r ≡ shapes.answer n p) × Forms s name r s' a
+    (r : Result Geometry GeometryFault) × (answered_as (λ g. (g.slots, g.page)) shapes.numbers r ≡ shapes.answer n p) × Forms s name r s' a
 Does s (command.Put slot fields) s' a = On s s.formed (command.Put slot fields) s' a
 Does s (command.Get slot) s' a = On s s.formed (command.Get slot) s' a
 Does s (command.Clear slot) s' a = On s s.formed (command.Clear slot) s' a

@@ -1,5 +1,5 @@
 -- Decryption undoes encryption, and encryption undoes decryption.
-use Rattle.std.specs.Prelude.{◌≡◌, ℕ, zero, suc, ◌-◌, ◌*◌, ◌/◌, ◌%◌, ◌^◌, ◌<◌, List, [], ◌∷◌, ◌++◌, map, length, drop, bit_xor, slice_index, refl}
+use Rattle.std.specs.Prelude.{◌≡◌, ℕ, zero, suc, ◌*◌, ◌/◌, ◌%◌, ◌^◌, ◌<◌, List, [], ◌∷◌, ◌++◌, map, length, drop, bit_xor, slice_index, refl}
 use Rattle.std.proofs.Common.{sym, ◌∙◌, ap, ap₂, subst, arith}
 use Rattle.std.proofs.lemmas.Nat.{xor_comm, xor_lt}
 use Rattle.std.specs.Int.Bits.{xor_assoc, xor_self}
@@ -12,7 +12,7 @@ use Rattle.block.proofs.OnBytes.{under_take, under_drop, under_append, under_zer
 use Rattle.block.proofs.Sixteen.{spread-all}
 use Rattle.block.proofs.Sums.{cancel}
 use Rattle.skinny.specs.Sbox.{sub, unsub}
-use Rattle.skinny.specs.Skinny.{Cells, add, row, right, left, shifted_rows, unshift_rows, mixed_columns, unmix_columns, round_of, unround_of, next, constant_at, constant_cells, top, permuted, on_top, lfsr2, lfsr3, step2, step3, keys_of_rounds, rounds, unrounds, encrypted_cells, decrypted_cells, cells_of, block_of, encrypt_block, decrypt_block}
+use Rattle.skinny.specs.Skinny.{Cells, add, row, left, shifted_rows, unshift_rows, mixed_columns, unmix_columns, round_of, unround_of, next, constant_at, constant_cells, top, permuted, on_top, lfsr2, lfsr3, step2, step3, keys_of_rounds, rounds, unrounds, encrypted_cells, decrypted_cells, cells_of, block_of, encrypt_block, decrypt_block}
 use Rattle.skinny.specs.Cell.{unsub-sub, sub-unsub, sub_is_byte, unsub_byte, lfsr2_byte, lfsr3_byte}
 use Rattle.skinny.specs.Linear.{length-add, length-on_top}
 

@@ -1,6 +1,6 @@
 -- Numbers with commas between them.
 use Rattle.std.proofs.Common.{◌≡◌, ℕ, zero, suc, ◌+◌, ◌<◌, List, [], ◌∷◌, ◌++◌, length, get_or, take, drop, set, decimal, sym, refl, ap, ◌∙◌, append_assoc, add-one, arith}
-use Rattle.std.specs.List.{AllByRecursion as All}
+use Rattle.std.specs.List.{AllByRecursion}
 use Rattle.std.proofs.ByRecursion.{All-push, All-get_or}
 use Rattle.std.proofs.lemmas.List.{take_more_set, take_all, length-set}
 use Rattle.text.specs.Texts.{Small, Free, listed}
@@ -41,8 +41,8 @@ listed_last (n ∷ (m ∷ ns)) (suc i) h = listed_last (m ∷ ns) i (omega arith
 -- what was read so far, and what any numbers with this text leave
 abbrev pub Reading : List ℕ → List ℕ → ℕ → List ℕ → Type 0
 Reading bs out i rest =
-    (bs ≡ heads (take i out) ++ rest) × All Small (take i out)
-    × ((ns : List ℕ) → length ns ≡ length out → All Small ns → bs ≡ listed ns → rest ≡ listed (drop i ns))
+    (bs ≡ heads (take i out) ++ rest) × AllByRecursion Small (take i out)
+    × ((ns : List ℕ) → length ns ≡ length out → AllByRecursion Small ns → bs ≡ listed ns → rest ≡ listed (drop i ns))
 
 pub reading_none : (bs out : List ℕ) → Reading bs out 0 bs
 unfolding heads
@@ -62,22 +62,22 @@ reading_more bs out rest piece more i n l h free e small is =
           (sym e ∙ h.2 ns len' all same ∙ listed_more ns i (omega arith))).1,
     )
 
-pub uncut : (bs out rest : List ℕ) (i : ℕ) → i + 1 < length out → Reading bs out i rest → Free rest → (ns : List ℕ) → length ns ≡ length out → All Small ns → bs ≡ listed ns → ⊥
+pub uncut : (bs out rest : List ℕ) (i : ℕ) → i + 1 < length out → Reading bs out i rest → Free rest → (ns : List ℕ) → length ns ≡ length out → AllByRecursion Small ns → bs ≡ listed ns → ⊥
 uncut bs out rest i l h free ns len all same =
     no_cut rest (decimal (get_or ns i 0)) (listed (drop (i + 1) ns)) free (h.2 ns len all same ∙ listed_more ns i (omega arith))
 
-pub unread : (bs out rest piece more : List ℕ) (i : ℕ) → i + 1 < length out → Reading bs out i rest → Free piece → rest ≡ piece ++ (44 ∷ more) → ((n : ℕ) → Small n → piece ≡ decimal n → ⊥) → (ns : List ℕ) → length ns ≡ length out → All Small ns → bs ≡ listed ns → ⊥
+pub unread : (bs out rest piece more : List ℕ) (i : ℕ) → i + 1 < length out → Reading bs out i rest → Free piece → rest ≡ piece ++ (44 ∷ more) → ((n : ℕ) → Small n → piece ≡ decimal n → ⊥) → (ns : List ℕ) → length ns ≡ length out → AllByRecursion Small ns → bs ≡ listed ns → ⊥
 unread bs out rest piece more i l h free e none ns len all same =
     let s : Small (get_or ns i 0) = All-get_or Small ns i 0 (omega arith) all in
     none (get_or ns i 0) s (same_cut piece more (decimal (get_or ns i 0)) (listed (drop (i + 1) ns)) free (numeral_free (get_or ns i 0) s)
     (sym e ∙ h.2 ns len all same ∙ listed_more ns i (omega arith))).0
 
-pub unended : (bs out rest : List ℕ) (i : ℕ) → i + 1 ≡ length out → Reading bs out i rest → ((n : ℕ) → Small n → rest ≡ decimal n → ⊥) → (ns : List ℕ) → length ns ≡ length out → All Small ns → bs ≡ listed ns → ⊥
+pub unended : (bs out rest : List ℕ) (i : ℕ) → i + 1 ≡ length out → Reading bs out i rest → ((n : ℕ) → Small n → rest ≡ decimal n → ⊥) → (ns : List ℕ) → length ns ≡ length out → AllByRecursion Small ns → bs ≡ listed ns → ⊥
 unended bs out rest i l h none ns len all same =
     let s : Small (get_or ns i 0) = All-get_or Small ns i 0 (omega arith) all in
     none (get_or ns i 0) s (h.2 ns len all same ∙ listed_last ns i (omega arith))
 
-pub reading-all : (bs out rest : List ℕ) (i n : ℕ) → i + 1 ≡ length out → Reading bs out i rest → Small n → rest ≡ decimal n → All Small (set out i n) × (bs ≡ listed (set out i n))
+pub reading-all : (bs out rest : List ℕ) (i n : ℕ) → i + 1 ≡ length out → Reading bs out i rest → Small n → rest ≡ decimal n → AllByRecursion Small (set out i n) × (bs ≡ listed (set out i n))
 reading-all bs out rest i n l h small e =
     let len : length (set out i n) ≡ i + 1 = length-set out i n ∙ sym l in
     let t : set out i n ≡ take i out ++ (n ∷ []) = sym (take_all (i + 1) (set out i n) (omega arith)) ∙ take_more_set out i n (omega arith) in (
@@ -86,7 +86,7 @@ reading-all bs out rest i n l h small e =
     )
 
 -- equally many numbers with one text are the same numbers
-pub listed_same : (xs ys : List ℕ) → length xs ≡ length ys → All Small xs → All Small ys → listed xs ≡ listed ys → xs ≡ ys
+pub listed_same : (xs ys : List ℕ) → length xs ≡ length ys → AllByRecursion Small xs → AllByRecursion Small ys → listed xs ≡ listed ys → xs ≡ ys
 unfolding listed
 listed_same [] [] l p q e = refl
 listed_same [] (y ∷ ys) l p q e = absurd (omega arith)

@@ -2,7 +2,7 @@
 use Rattle.std.specs.Prelude.{◌≡◌, ℕ, ◌/◌, ◌%◌, ◌<◌, Bool, true, false, List, [], ◌∷◌, ◌++◌, length, Some, None, decimal, Option, ◌≢◌}
 use Rattle.std.specs.Char.{digit_char}
 use Rattle.std.specs.Int.Digits.{AllBelowBase}
-use Rattle.std.specs.List.{AllByRecursion as All}
+use Rattle.std.specs.List.{AllByRecursion}
 
 -- the answer of a reader, where `t` gives the text of each value: `Some x` where the text is that of an admitted x,
 -- and `None` where it is that of none
@@ -15,11 +15,11 @@ abbrev pub Small : ℕ → Type 0
 Small n = n < 100000
 
 abbrev pub Seven : List ℕ → Type 0
-Seven ns = (length ns ≡ 7) × All Small ns
+Seven ns = (length ns ≡ 7) × AllByRecursion Small ns
 
 -- no comma
 abbrev pub Free : List ℕ → Type 0
-Free bs = All (λ b. b ≢ 44) bs
+Free bs = AllByRecursion (λ b. b ≢ 44) bs
 
 -- numbers with commas between them
 unfoldable pub listed : List ℕ → List ℕ
@@ -29,8 +29,8 @@ listed (n ∷ (m ∷ ns)) = decimal n ++ (44 ∷ listed (m ∷ ns))
 
 -- whether a text was that of as many numbers as `out` has room for; if so, `out` holds them
 abbrev pub Filled : List ℕ → List ℕ → Bool → Type 0
-Filled bs out true = All Small out × (bs ≡ listed out)
-Filled bs out false = (ns : List ℕ) → length ns ≡ length out → All Small ns → bs ≢ listed ns
+Filled bs out true = AllByRecursion Small out × (bs ≡ listed out)
+Filled bs out false = (ns : List ℕ) → length ns ≡ length out → AllByRecursion Small ns → bs ≢ listed ns
 
 -- bytes in lower-case hexadecimal digits, two to a byte, the high one first
 unfoldable pub hex : List ℕ → List ℕ

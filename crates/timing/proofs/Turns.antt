@@ -1,5 +1,5 @@
 -- A loop that repeats a call: one turn more, and its end. And bytes of the length that a call asks for.
-use Rattle.std.proofs.Common.{◌≡◌, ℕ, zero, suc, ◌+◌, eqb, List, length, sym, refl, ap, ◌∙◌, add-one}
+use Rattle.std.proofs.Common.{◌≡◌, ℕ, ◌+◌, eqb, List, length, sym, refl, ap, ◌∙◌, add-one}
 use Rattle.std.proofs.lemmas.Bool.{eq-eqb, cond-true}
 use Rattle.block.specs.declared.diblock.DiBlock.{DiBlock}
 use Rattle.block.specs.Blocks.{block, di}

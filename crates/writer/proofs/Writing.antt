@@ -1,7 +1,7 @@
 -- Texts written one after another.
 use Rattle.std.proofs.Common.{◌≡◌, ℕ, suc, ◌+◌, ◌-◌, ◌*◌, ◌/◌, ◌%◌, ◌^◌, ◌<◌, ◌≤◌, List, [], ◌∷◌, ◌++◌, length, get_or, take, drop, set, decimal, sym, refl, ap, ◌∙◌, subst, append_assoc, add-one, arith}
 use Rattle.std.specs.Char.{digit_char}
-use Rattle.std.specs.List.{AllByRecursion as All}
+use Rattle.std.specs.List.{AllByRecursion}
 use Rattle.std.proofs.lemmas.Fmt.{decimal_digit, decimal_step, length-decimal-le}
 use Rattle.std.proofs.lemmas.List.{set_split, take_at, drop_at, drop-drop, length-append, length-drop, length_push, length-set, length-take-le, take-append-drop, take_more, take_rest}
 use Rattle.text.specs.Texts.{listed, hex}
@@ -76,7 +76,7 @@ short : (n : ℕ) → n < 2 ^ 32 → length (decimal n) ≤ 10
 short n h = length-decimal-le 10 n (omega arith) (omega arith) (omega arith)
 
 -- at most ten digits to a number, and a comma
-pub length-listed : (ns : List ℕ) → All (λ n. n < 2 ^ 32) ns → length (listed ns) ≤ 11 * length ns
+pub length-listed : (ns : List ℕ) → AllByRecursion (λ n. n < 2 ^ 32) ns → length (listed ns) ≤ 11 * length ns
 unfolding listed
 length-listed [] h = omega arith
 length-listed (n ∷ []) h = omega (arith, short n h.0)

@@ -2,7 +2,7 @@
 ghost use Rattle.std.specs.Prelude.{◌≡◌, ℕ, ◌+◌, ◌^◌, ◌<◌, true, is_some};
 ghost use Rattle.std.specs.Option.{unwrap_or};
 ghost use Rattle.cipher.specs.Tweaks.{number_of, tweaked};
-ghost use Rattle.mode.specs.Mode.{hash as hashOf, crossed, xsums, ysums, mix as mixOf, close as closeOf, unmix as unmixOf, unclose as uncloseOf};
+ghost use Rattle.mode.specs.Mode.{hash as hash_of, crossed, xsums, ysums, mix as mix_of, close as close_of, unmix as unmix_of, unclose as unclose_of};
 
 use crate::layers::tweak;
 use block::diblock::DiBlock;
@@ -30,7 +30,7 @@ pub fn cross_y<C: TweakableCipher>(c: &C, n: u32, s: DiBlock) -> DiBlock
 
 // S and T.
 pub fn mix<C: TweakableCipher>(c: &C, n: u32, d: DiBlock) -> DiBlock
-    ensures { result ≡ mixOf (tweaked (C.encrypted c.now)) n d }
+    ensures { result ≡ mix_of (tweaked (C.encrypted c.now)) n d }
 {
     let s = c.encrypt(tweak("ts", n, d.right), d.left);
     DiBlock {
@@ -40,7 +40,7 @@ pub fn mix<C: TweakableCipher>(c: &C, n: u32, d: DiBlock) -> DiBlock
 }
 
 pub fn unmix<C: TweakableCipher>(c: &C, n: u32, st: DiBlock) -> DiBlock
-    ensures { result ≡ unmixOf (tweaked (C.encrypted c.now)) (tweaked (C.decrypted c.now)) n st }
+    ensures { result ≡ unmix_of (tweaked (C.encrypted c.now)) (tweaked (C.decrypted c.now)) n st }
 {
     let right = c.decrypt(tweak("ss", n, st.left), st.right);
     DiBlock {
@@ -51,7 +51,7 @@ pub fn unmix<C: TweakableCipher>(c: &C, n: u32, st: DiBlock) -> DiBlock
 
 // C_L and C_R, from S and T.
 pub fn close<C: TweakableCipher>(c: &C, n: u32, st: DiBlock) -> DiBlock
-    ensures { result ≡ closeOf (tweaked (C.encrypted c.now)) n st }
+    ensures { result ≡ close_of (tweaked (C.encrypted c.now)) n st }
 {
     let left = c.encrypt(tweak("cs", n, st.right), st.left);
     DiBlock {
@@ -61,7 +61,7 @@ pub fn close<C: TweakableCipher>(c: &C, n: u32, st: DiBlock) -> DiBlock
 }
 
 pub fn unclose<C: TweakableCipher>(c: &C, n: u32, d: DiBlock) -> DiBlock
-    ensures { result ≡ uncloseOf (tweaked (C.encrypted c.now)) (tweaked (C.decrypted c.now)) n d }
+    ensures { result ≡ unclose_of (tweaked (C.encrypted c.now)) (tweaked (C.decrypted c.now)) n d }
 {
     let t = c.decrypt(tweak("bs", n, d.left), d.right);
     DiBlock {
@@ -73,7 +73,7 @@ pub fn unclose<C: TweakableCipher>(c: &C, n: u32, d: DiBlock) -> DiBlock
 // H(i; u, v), two blocks from two.
 pub fn hash<C: TweakableCipher>(c: &C, i: u32, d: DiBlock) -> DiBlock
     requires { i < 2 ^ 16 }
-    ensures { result ≡ hashOf (tweaked (C.encrypted c.now)) i d }
+    ensures { result ≡ hash_of (tweaked (C.encrypted c.now)) i d }
 {
     DiBlock {
         left: c.encrypt(tweak("p", i, d.right), d.left),

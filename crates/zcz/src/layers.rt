@@ -2,9 +2,9 @@
 ghost use Rattle.std.specs.Prelude.{◌≡◌, ℕ, suc, ◌+◌, ◌*◌, ◌^◌, ◌<◌, ◌≤◌, true, length, is_some};
 ghost use Rattle.std.specs.Option.{unwrap_or};
 ghost use Rattle.block.specs.Blocks.{reads};
-ghost use Rattle.block.specs.Places.{at as diAt, put as put_at};
+ghost use Rattle.block.specs.Places.{at as di_at, put as put_at};
 ghost use Rattle.cipher.specs.Tweaks.{number_of, head_of, tweaked};
-ghost use Rattle.mode.specs.Mode.{each, top as top_of, bottom as bottomOf, untop as untopOf, unbottom as unbottomOf, mask, masked as maskedOf, xstar, ystar};
+ghost use Rattle.mode.specs.Mode.{each, top as top_of, bottom as bottom_of, untop as untop_of, unbottom as unbottom_of, mask, masked as masked_of, xstar, ystar};
 ghost use Rattle.mode.specs.Running.{passed, xmore, ymore, link, then_on};
 
 use block::alpha::double;
@@ -52,7 +52,7 @@ fn top<C: TweakableCipher>(c: &C, index: u32, d: DiBlock) -> DiBlock
 }
 
 fn untop<C: TweakableCipher>(c: &C, index: u32, d: DiBlock) -> DiBlock
-    ensures { result ≡ untopOf (tweaked (C.encrypted c.now)) (tweaked (C.decrypted c.now)) index d }
+    ensures { result ≡ untop_of (tweaked (C.encrypted c.now)) (tweaked (C.decrypted c.now)) index d }
 {
     DiBlock {
         left: c.decrypt(tweak("t", index, d.right), d.left),
@@ -61,7 +61,7 @@ fn untop<C: TweakableCipher>(c: &C, index: u32, d: DiBlock) -> DiBlock
 }
 
 fn bottom<C: TweakableCipher>(c: &C, index: u32, d: DiBlock) -> DiBlock
-    ensures { result ≡ bottomOf (tweaked (C.encrypted c.now)) index d }
+    ensures { result ≡ bottom_of (tweaked (C.encrypted c.now)) index d }
 {
     DiBlock {
         left: d.left,
@@ -70,7 +70,7 @@ fn bottom<C: TweakableCipher>(c: &C, index: u32, d: DiBlock) -> DiBlock
 }
 
 fn unbottom<C: TweakableCipher>(c: &C, index: u32, d: DiBlock) -> DiBlock
-    ensures { result ≡ unbottomOf (tweaked (C.encrypted c.now)) (tweaked (C.decrypted c.now)) index d }
+    ensures { result ≡ unbottom_of (tweaked (C.encrypted c.now)) (tweaked (C.decrypted c.now)) index d }
 {
     DiBlock {
         left: d.left,
@@ -80,7 +80,7 @@ fn unbottom<C: TweakableCipher>(c: &C, index: u32, d: DiBlock) -> DiBlock
 
 // The mask of a di-block, with T and S_j. Masked twice, it is as it was.
 fn masked<C: TweakableCipher>(c: &C, t: Block, s: Block, index: u32, d: DiBlock) -> DiBlock
-    ensures { result ≡ maskedOf (tweaked (C.encrypted c.now)) t s index d }
+    ensures { result ≡ masked_of (tweaked (C.encrypted c.now)) t s index d }
 {
     let z = c.encrypt(tweak("c", index, t), s);
     DiBlock {
@@ -104,8 +104,8 @@ fn next_link<C: TweakableCipher>(c: &C, s: Block, i: usize) -> Block
 // One turn of the top layer, at place i.
 fn top_at<C: TweakableCipher>(c: &C, m: &mut [u8], i: usize, sums: DiBlock) -> DiBlock
     requires { (32 * i + 32 ≤ length m.old) × (i < 2 ^ 16) }
-    ensures wrote { m.new ≡ put_at m.old i (top_of (tweaked (C.encrypted c.now)) (suc i) (diAt m.old i)) }
-    ensures sums { result ≡ xmore sums (top_of (tweaked (C.encrypted c.now)) (suc i) (diAt m.old i)) }
+    ensures wrote { m.new ≡ put_at m.old i (top_of (tweaked (C.encrypted c.now)) (suc i) (di_at m.old i)) }
+    ensures sums { result ≡ xmore sums (top_of (tweaked (C.encrypted c.now)) (suc i) (di_at m.old i)) }
 {
     let x = top(c, i as u32 + 1, DiBlock::read(m, i));
     x.write(m, i);
@@ -135,8 +135,8 @@ fn mask_at<C: TweakableCipher>(
     sums: DiBlock,
 ) -> DiBlock
     requires { (32 * i + 32 ≤ length m.old) × (i < 2 ^ 16) }
-    ensures wrote { m.new ≡ put_at m.old i (then_on (maskedOf (tweaked (C.encrypted c.now)) t s) (bottomOf (tweaked (C.encrypted c.now))) (suc i) (diAt m.old i)) }
-    ensures sums { result ≡ ymore sums (maskedOf (tweaked (C.encrypted c.now)) t s (suc i) (diAt m.old i)) }
+    ensures wrote { m.new ≡ put_at m.old i (then_on (masked_of (tweaked (C.encrypted c.now)) t s) (bottom_of (tweaked (C.encrypted c.now))) (suc i) (di_at m.old i)) }
+    ensures sums { result ≡ ymore sums (masked_of (tweaked (C.encrypted c.now)) t s (suc i) (di_at m.old i)) }
 {
     let k = i as u32 + 1;
     let y = masked(c, t, s, k, DiBlock::read(m, i));
@@ -147,7 +147,7 @@ fn mask_at<C: TweakableCipher>(
 // The mask and the bottom layer over the first n di-blocks, with S and T; the answer is Y_L* and Y_R*.
 pub fn mask_layer<C: TweakableCipher>(c: &C, m: &mut [u8], n: usize, st: DiBlock) -> DiBlock
     requires { (32 * n ≤ length m.old) × (n < 2 ^ 16) }
-    ensures wrote { m.new ≡ passed (then_on (mask (tweaked (C.encrypted c.now)) st) (bottomOf (tweaked (C.encrypted c.now)))) n m.old }
+    ensures wrote { m.new ≡ passed (then_on (mask (tweaked (C.encrypted c.now)) st) (bottom_of (tweaked (C.encrypted c.now)))) n m.old }
     ensures sums { result ≡ ystar (each (mask (tweaked (C.encrypted c.now)) st) 1 (reads n m.old)) }
 {
     let mut s = st.left;
@@ -162,8 +162,8 @@ pub fn mask_layer<C: TweakableCipher>(c: &C, m: &mut [u8], n: usize, st: DiBlock
 // One turn of the bottom layer taken back, at place i.
 fn unbottom_at<C: TweakableCipher>(c: &C, m: &mut [u8], i: usize, sums: DiBlock) -> DiBlock
     requires { (32 * i + 32 ≤ length m.old) × (i < 2 ^ 16) }
-    ensures wrote { m.new ≡ put_at m.old i (unbottomOf (tweaked (C.encrypted c.now)) (tweaked (C.decrypted c.now)) (suc i) (diAt m.old i)) }
-    ensures sums { result ≡ ymore sums (unbottomOf (tweaked (C.encrypted c.now)) (tweaked (C.decrypted c.now)) (suc i) (diAt m.old i)) }
+    ensures wrote { m.new ≡ put_at m.old i (unbottom_of (tweaked (C.encrypted c.now)) (tweaked (C.decrypted c.now)) (suc i) (di_at m.old i)) }
+    ensures sums { result ≡ ymore sums (unbottom_of (tweaked (C.encrypted c.now)) (tweaked (C.decrypted c.now)) (suc i) (di_at m.old i)) }
 {
     let y = unbottom(c, i as u32 + 1, DiBlock::read(m, i));
     y.write(m, i);
@@ -173,8 +173,8 @@ fn unbottom_at<C: TweakableCipher>(c: &C, m: &mut [u8], i: usize, sums: DiBlock)
 // Each R'_k becomes Y_k over the first n di-blocks; the answer is Y_L* and Y_R*.
 pub fn unbottom_layer<C: TweakableCipher>(c: &C, m: &mut [u8], n: usize) -> DiBlock
     requires { (32 * n ≤ length m.old) × (n < 2 ^ 16) }
-    ensures wrote { m.new ≡ passed (unbottomOf (tweaked (C.encrypted c.now)) (tweaked (C.decrypted c.now))) n m.old }
-    ensures sums { result ≡ ystar (each (unbottomOf (tweaked (C.encrypted c.now)) (tweaked (C.decrypted c.now))) 1 (reads n m.old)) }
+    ensures wrote { m.new ≡ passed (unbottom_of (tweaked (C.encrypted c.now)) (tweaked (C.decrypted c.now))) n m.old }
+    ensures sums { result ≡ ystar (each (unbottom_of (tweaked (C.encrypted c.now)) (tweaked (C.decrypted c.now))) 1 (reads n m.old)) }
 {
     let mut sums = DiBlock { left: 0, right: 0 };
     for i in 0..n {
@@ -193,8 +193,8 @@ fn unmask_at<C: TweakableCipher>(
     sums: DiBlock,
 ) -> DiBlock
     requires { (32 * i + 32 ≤ length m.old) × (i < 2 ^ 16) }
-    ensures wrote { m.new ≡ put_at m.old i (then_on (maskedOf (tweaked (C.encrypted c.now)) t s) (untopOf (tweaked (C.encrypted c.now)) (tweaked (C.decrypted c.now))) (suc i) (diAt m.old i)) }
-    ensures sums { result ≡ xmore sums (maskedOf (tweaked (C.encrypted c.now)) t s (suc i) (diAt m.old i)) }
+    ensures wrote { m.new ≡ put_at m.old i (then_on (masked_of (tweaked (C.encrypted c.now)) t s) (untop_of (tweaked (C.encrypted c.now)) (tweaked (C.decrypted c.now))) (suc i) (di_at m.old i)) }
+    ensures sums { result ≡ xmore sums (masked_of (tweaked (C.encrypted c.now)) t s (suc i) (di_at m.old i)) }
 {
     let k = i as u32 + 1;
     let x = masked(c, t, s, k, DiBlock::read(m, i));
@@ -205,7 +205,7 @@ fn unmask_at<C: TweakableCipher>(
 // The mask and the top layer taken back over the first n di-blocks, with S and T; the answer is X_L* and X_R*.
 pub fn unmask_layer<C: TweakableCipher>(c: &C, m: &mut [u8], n: usize, st: DiBlock) -> DiBlock
     requires { (32 * n ≤ length m.old) × (n < 2 ^ 16) }
-    ensures wrote { m.new ≡ passed (then_on (mask (tweaked (C.encrypted c.now)) st) (untopOf (tweaked (C.encrypted c.now)) (tweaked (C.decrypted c.now)))) n m.old }
+    ensures wrote { m.new ≡ passed (then_on (mask (tweaked (C.encrypted c.now)) st) (untop_of (tweaked (C.encrypted c.now)) (tweaked (C.decrypted c.now)))) n m.old }
     ensures sums { result ≡ xstar (each (mask (tweaked (C.encrypted c.now)) st) 1 (reads n m.old)) }
 {
     let mut s = st.left;

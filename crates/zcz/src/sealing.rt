@@ -3,7 +3,7 @@ ghost use Rattle.std.specs.Prelude.{◌≡◌, ℕ, ◌-◌, ◌*◌, ◌^◌, �
 ghost use Rattle.std.specs.Int.Digits.{AllBelowBase};
 ghost use Rattle.block.specs.Blocks.{add, reads, writes};
 ghost use Rattle.cipher.specs.Tweaks.{tweaked};
-ghost use Rattle.mode.specs.Mode.{core as core_of, uncore as uncoreOf, encipher as encipherOf, decipher as decipherOf};
+ghost use Rattle.mode.specs.Mode.{core as core_of, uncore as uncore_of, encipher as encipher_of, decipher as decipher_of};
 
 use crate::ends::{close, cross_x, cross_y, mix, unclose, unmix};
 use crate::layers::{mask_layer, top_layer, unbottom_layer, unmask_layer};
@@ -27,8 +27,8 @@ fn core<C: TweakableCipher>(c: &C, m: &mut [u8], n: usize, last: DiBlock) -> DiB
 // Steps 6 to 2 taken back.
 fn uncore<C: TweakableCipher>(c: &C, m: &mut [u8], n: usize, last: DiBlock) -> DiBlock
     requires { (32 * n ≤ length m.old) × ((n < 2 ^ 16 - 1) × (AllBelowBase 256 m.old)) }
-    ensures wrote { m.new ≡ writes (uncoreOf (tweaked (C.encrypted c.now)) (tweaked (C.decrypted c.now)) (reads n m.old) last).0 ++ drop (32 * n) m.old }
-    ensures last { result ≡ (uncoreOf (tweaked (C.encrypted c.now)) (tweaked (C.decrypted c.now)) (reads n m.old) last).1 }
+    ensures wrote { m.new ≡ writes (uncore_of (tweaked (C.encrypted c.now)) (tweaked (C.decrypted c.now)) (reads n m.old) last).0 ++ drop (32 * n) m.old }
+    ensures last { result ≡ (uncore_of (tweaked (C.encrypted c.now)) (tweaked (C.decrypted c.now)) (reads n m.old) last).1 }
 {
     let l = n as u32 + 1;
     let y = unbottom_layer(c, m, n);
@@ -40,7 +40,7 @@ fn uncore<C: TweakableCipher>(c: &C, m: &mut [u8], n: usize, last: DiBlock) -> D
 // The mode on a message of an admitted length.
 pub fn encipher_message<C: TweakableCipher>(c: &C, m: &mut [u8])
     requires { (32 ≤ length m.old) × ((length m.old ≤ 65536) × (AllBelowBase 256 m.old)) }
-    ensures { m.new ≡ encipherOf (tweaked (C.encrypted c.now)) m.old }
+    ensures { m.new ≡ encipher_of (tweaked (C.encrypted c.now)) m.old }
 {
     let n = m.len() / 32 - 1;
     let last = DiBlock::read(m, n) ^ tail_hash(c, 0, m, n);
@@ -53,7 +53,7 @@ pub fn encipher_message<C: TweakableCipher>(c: &C, m: &mut [u8])
 // The mode taken back.
 pub fn decipher_message<C: TweakableCipher>(c: &C, m: &mut [u8])
     requires { (32 ≤ length m.old) × ((length m.old ≤ 65536) × (AllBelowBase 256 m.old)) }
-    ensures { m.new ≡ decipherOf (tweaked (C.encrypted c.now)) (tweaked (C.decrypted c.now)) m.old }
+    ensures { m.new ≡ decipher_of (tweaked (C.encrypted c.now)) (tweaked (C.decrypted c.now)) m.old }
 {
     let n = m.len() / 32 - 1;
     let last = DiBlock::read(m, n) ^ tail_hash(c, 4, m, n);

@@ -2,8 +2,8 @@
 ghost use Rattle.std.specs.Prelude.{◌≡◌, ℕ, ◌+◌, ◌-◌, ◌*◌, ◌^◌, ◌<◌, ◌≤◌, ◌∷◌, ◌++◌, length, take, drop, replicate};
 ghost use Rattle.block.specs.Blocks.{write as bytes_of};
 ghost use Rattle.cipher.specs.Tweaks.{tweaked};
-ghost use Rattle.mode.specs.Parts.{onto, padded as paddedOf};
-ghost use Rattle.mode.specs.Mode.{hash as hashOf, hash_of_tail as tailHashOf};
+ghost use Rattle.mode.specs.Parts.{onto, padded as padded_of};
+ghost use Rattle.mode.specs.Mode.{hash as hash_of, hash_of_tail as tail_hash_of};
 
 use crate::ends::hash;
 use block::diblock::DiBlock;
@@ -22,7 +22,7 @@ fn pad_into(a: &mut [u8], t: &[u8])
 
 fn padded(t: &[u8]) -> DiBlock
     requires { length t.now < 32 }
-    ensures { result ≡ paddedOf t.now }
+    ensures { result ≡ padded_of t.now }
 {
     let mut a = [0u8; 32];
     pad_into(&mut a, t);
@@ -31,7 +31,7 @@ fn padded(t: &[u8]) -> DiBlock
 
 fn hash_tail<C: TweakableCipher>(c: &C, i: u32, t: &[u8]) -> DiBlock
     requires { (length t.now < 32) × (i < 2 ^ 16) }
-    ensures { result ≡ tailHashOf (tweaked (C.encrypted c.now)) i t.now }
+    ensures { result ≡ tail_hash_of (tweaked (C.encrypted c.now)) i t.now }
 {
     if t.is_empty() {
         DiBlock { left: 0, right: 0 }
@@ -43,7 +43,7 @@ fn hash_tail<C: TweakableCipher>(c: &C, i: u32, t: &[u8]) -> DiBlock
 // What the tail after n + 1 di-blocks adds to the last of them: nothing if it is empty.
 pub fn tail_hash<C: TweakableCipher>(c: &C, i: u32, m: &[u8], n: usize) -> DiBlock
     requires { (32 * n + 32 ≤ length m.now) × ((length m.now < 32 * n + 64) × (i < 2 ^ 16)) }
-    ensures { result ≡ tailHashOf (tweaked (C.encrypted c.now)) i (drop (32 * n + 32) m.now) }
+    ensures { result ≡ tail_hash_of (tweaked (C.encrypted c.now)) i (drop (32 * n + 32) m.now) }
 {
     hash_tail(c, i, &m[32 * n + 32..])
 }
@@ -60,7 +60,7 @@ fn add_bytes(t: &mut [u8], a: &[u8])
 // Adds the first bytes of H(2; d) to a tail.
 fn mask<C: TweakableCipher>(c: &C, t: &mut [u8], d: DiBlock)
     requires { length t.old < 32 }
-    ensures { t.new ≡ onto t.old (bytes_of (hashOf (tweaked (C.encrypted c.now)) 2 d)) }
+    ensures { t.new ≡ onto t.old (bytes_of (hash_of (tweaked (C.encrypted c.now)) 2 d)) }
 {
     if t.is_empty() {
         return;
@@ -73,7 +73,7 @@ fn mask<C: TweakableCipher>(c: &C, t: &mut [u8], d: DiBlock)
 // Adds the first bytes of H(2; d) to the tail after n + 1 di-blocks.
 pub fn mask_tail<C: TweakableCipher>(c: &C, m: &mut [u8], n: usize, d: DiBlock)
     requires { (32 * n + 32 ≤ length m.old) × (length m.old < 32 * n + 64) }
-    ensures { m.new ≡ take (32 * n + 32) m.old ++ onto (drop (32 * n + 32) m.old) (bytes_of (hashOf (tweaked (C.encrypted c.now)) 2 d)) }
+    ensures { m.new ≡ take (32 * n + 32) m.old ++ onto (drop (32 * n + 32) m.old) (bytes_of (hash_of (tweaked (C.encrypted c.now)) 2 d)) }
 {
     mask(c, &mut m[32 * n + 32..], d);
 }

@@ -1,5 +1,5 @@
 ghost use Rattle.std.specs.Prelude.{◌≡◌, pos, neg_ℤ, codes, refl};
-ghost use Rattle.block.specs.Answers.{answeredAs};
+ghost use Rattle.block.specs.Answers.{answered_as};
 ghost use Rattle.record.specs.Makings.{numbers};
 ghost use Rattle.record.specs.Rules.{within, between, Named};
 ghost use Rattle.record.specs.Settings.{rules, wide as wide_of};
@@ -60,7 +60,7 @@ impl ParameterSet {
     // The set of these fields, or which is the lowest wrong one.
     pub fn new(fields: ParameterFields) -> Result<ParameterSet, FieldFault>
         ensures value { result ≡ making fields }
-        ensures answer { answeredAs (λ s. s.fields) numbers result ≡ answer fields }
+        ensures answer { answered_as (λ s. s.fields) numbers result ≡ answer fields }
     {
         match fields.wrong() {
             None => Ok(ParameterSet { fields }),

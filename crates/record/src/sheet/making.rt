@@ -1,5 +1,5 @@
 ghost use Rattle.std.specs.Prelude.{◌≡◌, codes};
-ghost use Rattle.block.specs.Answers.{answeredAs};
+ghost use Rattle.block.specs.Answers.{answered_as};
 ghost use Rattle.record.specs.Makings.{numbers};
 ghost use Rattle.record.specs.Rules.{within, Named};
 ghost use Rattle.record.specs.Fields.{rules, list_of, fields_of};
@@ -89,7 +89,7 @@ impl Sheet {
     // The sheet of these fields, or which is the lowest wrong one.
     pub fn new(fields: SheetFields) -> Result<Sheet, FieldFault>
         ensures value { result ≡ making fields }
-        ensures answer { answeredAs (λ s. s.fields) numbers result ≡ answer fields }
+        ensures answer { answered_as (λ s. s.fields) numbers result ≡ answer fields }
     {
         match fields.wrong() {
             None => Ok(Sheet { fields }),

@@ -1,4 +1,4 @@
-use Rattle.std.proofs.Common.{length, Some, None, ap, ◌∙◌}
+use Rattle.std.proofs.Common.{length, None, ap, ◌∙◌}
 use Rattle.mode.specs.Permutes.{enciphered}
 use Rattle.page.proofs.Opening.{told}
 use Rattle.seal.proofs.Back.{sealed_says}

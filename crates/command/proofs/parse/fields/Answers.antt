@@ -1,5 +1,5 @@
 use Rattle.std.proofs.Common.{◌≡◌, sym, ap, ◌∙◌, subst}
-use Rattle.std.specs.List.{AllByRecursion as All}
+use Rattle.std.specs.List.{AllByRecursion}
 use Rattle.block.proofs.Sixteen.{spread-all}
 use Rattle.record.specs.Fields.{list_of}
 use Rattle.text.specs.Texts.{Small, listed}
@@ -10,4 +10,4 @@ returns c =
     let ns = c.in_ok-numbers.numbers in
     let read = c.in_ok-numbers.ensures in
     let all : ns ≡ list_of c.of.result = sym (spread-all 7 ns read.0.0) ∙ ap list_of (sym c.of.ensures) in
-    (subst (All Small) all read.0.1, read.1 ∙ ap listed all)
+    (subst (AllByRecursion Small) all read.0.1, read.1 ∙ ap listed all)

@@ -1,4 +1,4 @@
-use Rattle.std.proofs.Common.{◌≡◌, ℕ, ◌++◌, set, replicate, ap, ◌∙◌, ap₂}
+use Rattle.std.proofs.Common.{◌≡◌, ◌++◌, set, replicate, ap, ◌∙◌, ap₂}
 use borrow.Rule.Slice.PartMut.{post_of}
 use Rattle.page.proofs.Laying.{head_is}
 use Rattle.page.proofs.plain.write_head.Goals as goal

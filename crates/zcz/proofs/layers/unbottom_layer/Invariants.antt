@@ -1,4 +1,4 @@
-use Rattle.std.proofs.Common.{◌≡◌, ◌≤◌}
+use Rattle.std.proofs.Common.{◌≡◌}
 use Rattle.block.specs.Blocks.{reads}
 use Rattle.cipher.specs.Tweaks.{tweaked}
 use Rattle.mode.specs.Mode.{each, unbottom, ystar}

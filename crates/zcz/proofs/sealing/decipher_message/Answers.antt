@@ -1,10 +1,10 @@
-use Rattle.std.proofs.Common.{◌≡◌, ◌+◌, ◌-◌, ◌*◌, ◌/◌, ◌++◌, length, take, drop, refl, ap, ◌∙◌, ap₂}
+use Rattle.std.proofs.Common.{◌+◌, ◌-◌, ◌*◌, ◌/◌, ◌++◌, length, take, drop, refl, ap, ◌∙◌, ap₂}
 use Rattle.block.specs.Blocks.{add, write}
 use Rattle.block.specs.Places.{put}
 use Rattle.cipher.specs.Tweaks.{tweaked}
 use Rattle.mode.specs.Parts.{onto}
-use Rattle.mode.specs.Mode.{hash, hash_of_tail, core, uncore}
-use Rattle.mode.proofs.Core.{core_length, uncore_length}
+use Rattle.mode.specs.Mode.{hash, hash_of_tail, uncore}
+use Rattle.mode.proofs.Core.{uncore_length}
 use Rattle.mode.proofs.Ends.{whole_is}
 use Rattle.zcz.proofs.sealing.decipher_message.Goals as goal
 

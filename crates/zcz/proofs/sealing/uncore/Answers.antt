@@ -3,7 +3,7 @@ use Rattle.block.specs.Blocks.{add, reads}
 use Rattle.block.proofs.Sums.{AllBlocks}
 use Rattle.block.proofs.OnBytes.{fits_reads}
 use Rattle.cipher.specs.Tweaks.{tweaked}
-use Rattle.mode.specs.Mode.{each, top, untop, bottom, unbottom, crossed, xsums, ysums, mix, unmix, mask, close, unclose}
+use Rattle.mode.specs.Mode.{each, untop, unbottom, crossed, xsums, ysums, unmix, mask, unclose}
 use Rattle.mode.proofs.Layers.{each_fits}
 use Rattle.mode.proofs.Passes.{run_wrote, run_last}
 use Rattle.mode.proofs.Whole.{inverse}
