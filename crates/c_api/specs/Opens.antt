@@ -1,5 +1,5 @@
 -- The cipher and the geometry that a call is made with, or why there are none.
-use Rattle.std.specs.Prelude.{◌≡◌, ℕ, ◌<◌, ◌≤◌, false, cond, ◌⊎◌, List, length, Some, None, Option, ◌==◌}
+use Rattle.std.specs.Prelude.{◌≡◌, ℕ, ◌<◌, ◌≤◌, false, cond, List, length, Some, None, Option, ◌==◌}
 use Rattle.block.specs.Blocks.{block}
 use Rattle.ciphers.specs.declared.name.CipherName.{CipherName}
 use Rattle.ciphers.specs.declared.name.CipherName.TheVariants.{Skinny, Cascade, Bench}
@@ -7,10 +7,8 @@ use Rattle.ciphers.specs.declared.any.AnyCipher.{AnyCipher}
 use Rattle.ciphers.specs.Ciphers.{Under}
 use Rattle.calls.specs.declared.geometry.Geometry.{Geometry}
 use Rattle.calls.specs.Shapes.{admitted}
-use Rattle.c_api.specs.declared.answer.Answer.{Answer}
 use Rattle.c_api.specs.declared.answer.Refusal.{Refusal}
 use Rattle.c_api.specs.declared.answer.Refusal.TheVariants as why
-use Rattle.c_api.specs.Answers.{refused}
 
 -- the cipher of a selector
 abbrev pub named : ℕ → Option CipherName

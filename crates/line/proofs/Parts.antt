@@ -1,5 +1,5 @@
 -- A store has the front of the memory: what a call on that part does with the whole.
-use Rattle.std.proofs.Common.{◌≡◌, ℕ, ◌-◌, ◌*◌, ◌<◌, ◌≤◌, min, List, [], ◌++◌, length, take, drop, Some, None, Ok, Err, Option, Result, sym, refl, ap, ◌∙◌, subst, ⊎_elim, append-nil, arith}
+use Rattle.std.proofs.Common.{◌≡◌, ℕ, ◌-◌, ◌*◌, ◌<◌, ◌≤◌, min, List, [], ◌++◌, length, take, drop, Some, Ok, Err, Option, Result, sym, refl, ap, ◌∙◌, subst, ⊎_elim, append-nil, arith}
 use Rattle.std.proofs.lemmas.List.{take_all, take_at, drop_all, drop_at, length-take-le}
 use Rattle.std.proofs.lemmas.Bool.{cases_lt}
 use Rattle.std.specs.Option.{option_map}
@@ -17,7 +17,7 @@ use Rattle.calls.specs.Shapes as shapes
 use Rattle.calls.specs.Calls.{Formed}
 use Rattle.store.specs.declared.store.Store.{Store}
 use Rattle.session.specs.Answers.{Answer, done}
-use Rattle.session.specs.States.{used, spare}
+use Rattle.session.specs.States.{used}
 use Rattle.session.specs.Commanded.{Serves, after, OnFormed, Does}
 use Rattle.line.specs.Benches.{formed_of, state}
 

@@ -1,5 +1,5 @@
 -- Every line is answered as the lines before it make due.
-use Rattle.std.proofs.Common.{◌≡◌, ℕ, ◌*◌, ◌<◌, ◌≤◌, min, Bool, true, false, cond, eqb, ltb, leb, List, [], ◌∷◌, length, get_or, Some, None, Ok, Err, Option, Result, sym, refl, ap, ◌∙◌, subst, ⊎_elim, arith}
+use Rattle.std.proofs.Common.{◌≡◌, ℕ, ◌*◌, ◌<◌, ◌≤◌, Bool, true, false, cond, eqb, ltb, leb, List, [], ◌∷◌, length, get_or, Some, None, Ok, Err, Option, Result, sym, refl, ap, ◌∙◌, ⊎_elim, arith}
 use Rattle.std.proofs.lemmas.List.{length-take}
 use Rattle.std.proofs.lemmas.Bool.{cond-true, cond-false, lt-ltb, le-ltb, le-leb, lt-leb, eq-eqb, cases_lt}
 use Rattle.block.specs.Answers.{answered_as}
@@ -33,7 +33,7 @@ use Rattle.session.specs.States.{Formed, State, used}
 use Rattle.session.specs.Commanded.{Puts, shown, Serves, Forms, On}
 use Rattle.session.specs.Lines.{Acts, Event, Ran, goes_on}
 use Rattle.session.specs.History.{Formation, formation, held, where_slot, form_due, put_due, tells, page_due, due, due_after, Law}
-use Rattle.session.proofs.Keeping.{Run, Stands, Whole, accepts, shape, stands}
+use Rattle.session.proofs.Keeping.{Run, Stands, Whole, shape, stands}
 
 -- a slot that is there, and one that is not
 there : (k n : ℕ) (a b : Answer) → k < n → a ≡ cond (ltb k n) a b

@@ -1,5 +1,5 @@
 -- What is held between lines is what the lines tell: behind it stands a list of the store's calls.
-use Rattle.std.proofs.Common.{◌≡◌, ℕ, ◌+◌, ◌-◌, ◌*◌, ◌<◌, ◌≤◌, Bool, true, false, cond, eqb, List, [], ◌∷◌, ◌++◌, length, take, drop, Some, None, Ok, Err, Option, Result, sym, refl, ap, ◌∙◌, subst, arith, length-append, length-drop}
+use Rattle.std.proofs.Common.{◌≡◌, ℕ, ◌+◌, ◌*◌, ◌≤◌, Bool, true, false, cond, List, [], ◌∷◌, ◌++◌, length, take, drop, Some, None, Ok, Err, Option, Result, sym, refl, ap, ◌∙◌, subst, arith, length-append, length-drop}
 use lib.ListN.{length-replicate}
 use Rattle.std.proofs.lemmas.List.{take-append-drop}
 use Rattle.block.specs.Answers.{answered_as}
@@ -20,7 +20,7 @@ use Rattle.calls.specs.declared.geometry.shape.GeometryFault.{GeometryFault}
 use Rattle.calls.specs.declared.refusal.Refusal as refusal
 use Rattle.calls.specs.declared.refusal.Refusal.TheVariants as why
 use Rattle.calls.specs.Shapes as shapes
-use Rattle.calls.specs.Memory.{Sized, wiped}
+use Rattle.calls.specs.Memory.{wiped}
 use Rattle.calls.specs.Calls as calls
 use Rattle.calls.specs.Runs as runs
 use Rattle.session.specs.Answers.{Answer, ok, no, done}

@@ -1,5 +1,5 @@
 -- What the passes over all pages need.
-use Rattle.std.proofs.Common.{◌≡◌, ℕ, ◌+◌, ◌*◌, ◌<◌, ◌≤◌, List, length, drop, Ok, Err, Option, Result, sym, refl, ap, ◌∙◌, subst, ⊎_elim, arith}
+use Rattle.std.proofs.Common.{◌≡◌, ℕ, ◌+◌, ◌*◌, ◌<◌, List, length, drop, Ok, Err, Option, Result, sym, ap, ◌∙◌, ⊎_elim, arith}
 use Rattle.std.proofs.lemmas.Bool.{cases_eq}
 use Rattle.cipher.specs.declared.tweakable.TweakableCipher as cipher
 use Rattle.record.specs.declared.kind.Record as kind
@@ -13,7 +13,7 @@ use Rattle.page.specs.Pages.{slotted, opened, plain}
 use Rattle.page.specs.Laws.{Told}
 use Rattle.calls.specs.declared.geometry.Geometry.{Geometry}
 use Rattle.calls.specs.Memory.{page, Sized}
-use Rattle.calls.specs.Calls.{sealed, said, Says}
+use Rattle.calls.specs.Calls.{said, Says}
 use Rattle.calls.proofs.Placing.{row_le, page_long}
 use Rattle.store.specs.Looks.{Looked, Moved, Rewritten}
 

@@ -1,6 +1,5 @@
-use Rattle.std.proofs.Common.{sym, ap, ◌∙◌, subst, arith}
+use Rattle.std.proofs.Common.{sym, ◌∙◌, arith}
 use Rattle.std.proofs.lemmas.Result.{err_from_is_err_and}
-use Rattle.store.specs.Looks.{Looked}
 use Rattle.store.proofs.Passes.{says_more, lowest}
 use Rattle.store.proofs.all.look.Goals as goal
 

@@ -1,4 +1,4 @@
-use Rattle.std.proofs.Common.{◌≡◌, [], ◌∷◌, length, Some, None, refl, arith}
+use Rattle.std.proofs.Common.{[], ◌∷◌, Some, None, refl, arith}
 use Rattle.session.specs.Answers.{no, answer_text}
 use Rattle.writer.proofs.Writing.{written_within}
 use Rattle.line.proofs.bench.Bench.answer.Goals as goal
