@@ -244,7 +244,7 @@ fn picture(enciphered: &[Row]) -> String {
 
 fn main() {
     let args: Vec<String> = std::env::args().skip(1).collect();
-    let [clang, rustc] = &args[..] else { fail("started by benches/run, with the versions of clang and rustc") };
+    let [kit, clang, rustc] = &args[..] else { fail("started by benches/run, with the kit and the versions of clang and rustc") };
     let page = std::fs::read_to_string(PAGE).unwrap_or_else(|e| fail(&format!("{PAGE}: {e}")));
     let Some((before, rest)) = page.split_once(MARKS[0]) else { fail(&format!("{PAGE} has no measured part")) };
     let Some((_, after)) = rest.split_once(MARKS[1]) else { fail(&format!("{PAGE} has no end of the measured part")) };
@@ -262,8 +262,8 @@ fn main() {
     let [blocks, enciphered, deciphered, stored] = timed.map(|cases| rows(&cases));
 
     let measured = format!(
-        "Ours and plain C by clang {clang} at -O3, the peer by rustc {rustc} at -O; {}, words of {} bits. The best of \
-         {REPETITIONS}.\n\nOne block:\n\n{}\nEnciphering a message:\n\n{}\n{}\nDeciphering a message:\n\n{}\nThe store:\n\n{}",
+        "With {kit}. Ours by clang {clang} at -O2, plain C by it at -O3, the peer by rustc {rustc} at -O; {}, words of {} \
+         bits. The best of {REPETITIONS}.\n\nOne block:\n\n{}\nEnciphering a message:\n\n{}\n{}\nDeciphering a message:\n\n{}\nThe store:\n\n{}",
         std::env::consts::ARCH,
         usize::BITS,
         costs(&blocks),

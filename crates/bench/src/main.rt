@@ -6,6 +6,7 @@ use line::bench::{ANSWER, Bench};
 use line::buffer::LineBuffer;
 use std::io;
 use std::io::{BufWriter, ErrorKind, Read, Write};
+use std::process::ExitCode;
 
 // Answers the line that was taken.
 fn respond<W: Write>(bench: &mut Bench, line: &LineBuffer, output: &mut W) -> io::Result<()> {
@@ -68,16 +69,16 @@ fn run(rt: &HostRuntime) -> io::Result<()> {
     output.flush()
 }
 
-// A reader who closes the pipe has seen enough.
-fn main(rt: HostRuntime) -> io::Result<()> {
+// A reader who closes the pipe has seen enough. Another failure ends the program with status 1, and with no word.
+fn main(rt: HostRuntime) -> ExitCode {
     match run(&rt) {
         Err(e) => {
             if e.kind() == ErrorKind::BrokenPipe {
-                Ok(())
+                ExitCode::SUCCESS
             } else {
-                Err(e)
+                ExitCode::FAILURE
             }
         }
-        Ok(()) => Ok(()),
+        Ok(()) => ExitCode::SUCCESS,
     }
 }
