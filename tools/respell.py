@@ -2,11 +2,11 @@
 """Brings the names of this repository's own definitions and lemmas to today's spelling, once, at the top of the checkout.
 
 A definition or a lemma that begins with a small letter is in snake case. A dash stays only between two names that are
-themselves definitions, as in `length-hex`; a plain word is joined by `_`, as in `xor_twice`. Names that the code has (its
-functions, fields and constants), names that the checker makes, strings and comments' words are left as they are: only a
-whole word that some file of specs/ or proofs/ defines is respelled, and only in proof files, specs and clauses.
+themselves definitions, as in `length-hex`; a plain word is joined by `_`, as in `xor_twice`. It goes by whole words, in
+proof files, specs and sources: each that some file of specs/ or proofs/ defines is respelled wherever it stands. So a name
+that the checker makes, and that is spelled like one of ours, comes over too, and is mended by hand.
 
-It stops, and writes nothing, where two names would fall together.
+It stops, and writes nothing, where a new name stands in some file already or two names would fall together.
 """
 import glob
 import re
