@@ -28,6 +28,9 @@ xor_two x y =
     let e : (n : ℕ) → n * 2 ^ 1 + 0 ≡ 2 * n = λ n. omega arith in
     sym (e (bit_xor x y)) ∙ sym (xor_block 1 x y 0 0 (omega arith) (omega arith)) ∙ ap₂ bit_xor (e x) (e y)
 
+pub add-comm : (a b : DiBlock) → add a b ≡ add b a
+add-comm a b = ap₂ di (xor_comm a.left b.left) (xor_comm a.right b.right)
+
 pub add-add : (a b : DiBlock) → add (add a b) b ≡ a
 add-add a b = ap₂ di (cancel a.left b.left) (cancel a.right b.right)
 

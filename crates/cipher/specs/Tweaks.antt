@@ -28,5 +28,8 @@ abbrev pub head_of : ℕ → ℕ → ℕ
 head_of domain index = domain % 2 ^ 8 * 2 ^ 120 + index % 2 ^ 32
 
 -- a cipher's function, from a head, a body and a block, as one from a domain's name, an index, a body and a block
+abbrev pub tweaked_by : (ℕ → ℕ → ℕ → ℕ) → List ℕ → ℕ → ℕ → ℕ → ℕ
+tweaked_by f name index = f (head_of (unwrap_or (number_of name) 0) index)
+
 abbrev pub tweaked : (ℕ → ℕ → ℕ → ℕ) → String → ℕ → ℕ → ℕ → ℕ
-tweaked f name index = f (head_of (unwrap_or (number_of (codes name)) 0) index)
+tweaked f name = tweaked_by f (codes name)

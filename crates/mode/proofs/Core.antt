@@ -11,6 +11,7 @@ use Rattle.block.proofs.Powers.{fits_Σα}
 use Rattle.block.proofs.OnBytes.{fits_read, under_append, under_zeros, under_write}
 use Rattle.mode.specs.Parts.{Parts, parts, onto, padded}
 use Rattle.mode.specs.Mode.{each, lefts, rights, both, xstar, ystar, hash, hash_of_tail, top, crossed, xsums, mix, chain, mask, bottom, ysums, close, core, encipher_parts, untop, unmix, unbottom, unclose, uncore, decipher_parts}
+use Rattle.mode.specs.Running.{sandwich, wrap}
 use Rattle.mode.proofs.Layers.{onto-onto, length-onto, under_onto, each-length, each_fits, each_back, map_fits}
 use Rattle.mode.proofs.Partition.{Good}
 
@@ -25,14 +26,6 @@ pub record Inverse (E D : String → ℕ → ℕ → ℕ → ℕ) : Type 0 where
 pub record Undoes (f g : ℕ → DiBlock → DiBlock) : Type 0 where
   pub fits : (i : ℕ) (d : DiBlock) → Blocks d → Blocks (f i d)
   back : (i : ℕ) (d : DiBlock) → Blocks d → g i (f i d) ≡ d
-
-abbrev pub sandwich : (A M : ℕ → DiBlock → DiBlock) (K : DiBlock → ℕ → DiBlock → DiBlock) (C B : ℕ → DiBlock → DiBlock) (s t : ℕ → List DiBlock → DiBlock) → List DiBlock → DiBlock → List DiBlock × DiBlock
-sandwich A M K C B s t ds l =
-    let n = suc (length ds) in
-    let xs = each A 1 ds in
-    let st = M n (add l (s n xs)) in
-    let ys = each (K st) 1 xs in
-    (each B 1 ys, add (C n st) (t n ys))
 
 module _ (A A' M M' C C' B B' : ℕ → DiBlock → DiBlock) (K : DiBlock → ℕ → DiBlock → DiBlock) (s t : ℕ → List DiBlock → DiBlock)
     (hA : Undoes A A') (hM : Undoes M M') (hC : Undoes C C') (hB : Undoes B B')
@@ -198,14 +191,6 @@ module _ {E D : String → ℕ → ℕ → ℕ → ℕ} (laws : Inverse E D) whe
   fits_tail_hash i (b ∷ bs) p =
       let q : Blocks (padded (b ∷ bs)) = fits_padded (b ∷ bs) p in
       (laws.fits_E "p" i _ _ q.1 q.0, laws.fits_E "p" (i + 1) _ _ q.1 q.0)
-
--- a core between two marks
-abbrev pub wrap : (f : List DiBlock → DiBlock → List DiBlock × DiBlock) (a b : List ℕ → DiBlock) (mid : DiBlock → DiBlock → List ℕ) → Parts → Parts
-wrap f a b mid p =
-    let l = add p.last (a p.tail) in
-    let c = f p.front l in
-    let t = onto p.tail (mid l c.1) in
-    parts c.0 (add c.1 (b t)) t
 
 module _ (f g : List DiBlock → DiBlock → List DiBlock × DiBlock) (a b : List ℕ → DiBlock) (mid : DiBlock → DiBlock → List ℕ)
     (fits : (t : List ℕ) → AllBelowBase 256 t → Blocks (a t))

@@ -13,9 +13,8 @@ use Rattle.block.proofs.Powers.{Σα_push}
 use Rattle.block.proofs.OnBytes.{length-writes, reads-writes}
 use Rattle.mode.specs.Parts.{padded}
 use Rattle.mode.specs.Mode.{each, xstar, ystar, lefts, rights, both, chain, hash, hash_of_tail}
-use Rattle.mode.specs.Running.{passed, xmore, ymore, link, then_on}
+use Rattle.mode.specs.Running.{passed, xmore, ymore, link, then_on, sandwich}
 use Rattle.mode.proofs.Layers.{each-length}
-use Rattle.mode.proofs.Core.{sandwich}
 
 pub reads-length : (n : ℕ) (m : List ℕ) → length (reads n m) ≡ n
 reads-length zero m = refl

@@ -2,10 +2,13 @@
 use Rattle.std.proofs.Common.{◌≡◌, ℕ, ◌+◌, ◌*◌, ◌<◌, ◌≤◌, true, false, leb, ◌⊎◌, List, length, sym, ap, ◌∙◌, ap₂, ⊎_elim, arith}
 use Rattle.std.specs.Int.Digits.{AllBelowBase}
 use Rattle.std.proofs.lemmas.Bool.{le-leb, lt-leb, and_from, and_left, and_right, cond-true, cond-false}
-use Rattle.block.specs.Blocks.{IsBlock}
+use Rattle.block.specs.declared.diblock.DiBlock.{DiBlock}
+use Rattle.block.specs.Blocks.{IsBlock, add, write}
+use Rattle.block.proofs.Sums.{Blocks, add-comm}
 use Rattle.cipher.specs.Tweaks.{head_of, tweaked}
-use Rattle.mode.specs.Parts.{Parts, split, join}
-use Rattle.mode.specs.Mode.{encipher_parts, decipher_parts, encipher, decipher}
+use Rattle.mode.specs.Parts.{Parts, parts, split, join, onto}
+use Rattle.mode.specs.Mode.{top, unbottom, hash, hash_of_tail, uncore, encipher_parts, decipher_parts, encipher, decipher}
+use Rattle.mode.specs.Running.{wrap}
 use Rattle.mode.specs.Permutes.{admitted, enciphered, deciphered, Message, Permutes}
 use Rattle.mode.proofs.Layers.{length-onto}
 use Rattle.mode.proofs.Partition.{Good, split_good, join-split, split-join, length-join, under_join}
@@ -105,3 +108,19 @@ module _ (f g : ℕ → ℕ → ℕ → ℕ) (laws : Lawful f g) where
         enciphers = deciphered_back sealed h;
         unique = λ m p e. sym (enciphered_back m p) ∙ ap (deciphered f g) e;
       }
+
+-- the first layer of each way makes blocks of blocks
+pub top_fits : (f g : ℕ → ℕ → ℕ → ℕ) → Lawful f g → (i : ℕ) (d : DiBlock) → Blocks d → Blocks (top (tweaked f) i d)
+top_fits f g laws i d p = ((inverse f g laws).fits_E "t" i d.right d.left p.1 p.0, p.1)
+
+pub unbottom_fits : (f g : ℕ → ℕ → ℕ → ℕ) → Lawful f g → (i : ℕ) (d : DiBlock) → Blocks d → Blocks (unbottom (tweaked f) (tweaked g) i d)
+unbottom_fits f g laws i d p = (p.0, (inverse f g laws).fits_D "b" i d.left d.right p.0 p.1)
+
+-- a tail's mask does not mind the order of the two di-blocks
+pub decipher_is : (f g : ℕ → ℕ → ℕ → ℕ) (m : List ℕ) → decipher (tweaked f) (tweaked g) m
+    ≡ join (wrap (uncore (tweaked f) (tweaked g)) (hash_of_tail (tweaked f) 4) (hash_of_tail (tweaked f) 0) (λ a b. write (hash (tweaked f) 2 (add a b))) (split m))
+decipher_is f g m =
+    let p : Parts = split m in
+    let l : DiBlock = add p.last (hash_of_tail (tweaked f) 4 p.tail) in
+    let c : List DiBlock × DiBlock = uncore (tweaked f) (tweaked g) p.front l in
+    ap (λ x. (let t = onto p.tail (write (hash (tweaked f) 2 x)) in join (parts c.0 (add c.1 (hash_of_tail (tweaked f) 0 t)) t))) (add-comm c.1 l)

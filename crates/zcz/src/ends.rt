@@ -1,72 +1,59 @@
-// The last full di-block: the sums crossed, S and T, and back.
+// What is done at the last full di-block: pairs of blocks encrypted with each other, and back.
 ghost use Rattle.std.specs.Prelude.{◌≡◌, ℕ, ◌+◌, ◌^◌, ◌<◌, true, is_some};
 ghost use Rattle.std.specs.Option.{unwrap_or};
-ghost use Rattle.cipher.specs.Tweaks.{number_of, tweaked};
-ghost use Rattle.mode.specs.Mode.{hash as hash_of, crossed, xsums, ysums, mix as mix_of, close as close_of, unmix as unmix_of, unclose as unclose_of};
+ghost use Rattle.cipher.specs.Tweaks.{number_of, head_of, tweaked, tweaked_by};
+ghost use Rattle.mode.specs.Mode.{hash as hash_of};
+ghost use Rattle.mode.specs.Running.{crossed_by, chained, unchained};
 
-use crate::layers::tweak;
-use block::diblock::DiBlock;
+use block::diblock::{Block, DiBlock};
+use cipher::domain::domain_number;
+use cipher::tweak::Tweak;
 use cipher::tweakable::TweakableCipher;
 
-// X_L and X_R, from X_L* and X_R*.
-pub fn cross_x<C: TweakableCipher>(c: &C, n: u32, s: DiBlock) -> DiBlock
-    ensures { result ≡ crossed (tweaked (C.encrypted c.now)) "xL" "xR" n s }
+// The tweak under a domain, by its name. Each name that the mode uses has a number.
+pub fn tweak(name: &str, index: u32, body: Block) -> Tweak
+    requires { is_some (number_of name.now) ≡ true }
+    ensures head { result.head ≡ head_of (unwrap_or (number_of name.now) 0) index }
+    ensures body { result.body ≡ body }
+{
+    Tweak::new(domain_number(name).unwrap(), index, body)
+}
+
+// Each block encrypted with the other for its body.
+pub fn cross<C: TweakableCipher>(c: &C, left: &str, right: &str, n: u32, d: DiBlock) -> DiBlock
+    requires left { is_some (number_of left.now) ≡ true }
+    requires right { is_some (number_of right.now) ≡ true }
+    ensures { result ≡ crossed_by (tweaked_by (C.encrypted c.now)) left.now right.now n d }
 {
     DiBlock {
-        left: c.encrypt(tweak("xL", n, s.right), s.left),
-        right: c.encrypt(tweak("xR", n, s.left), s.right),
+        left: c.encrypt(tweak(left, n, d.right), d.left),
+        right: c.encrypt(tweak(right, n, d.left), d.right),
     }
 }
 
-// Y_L and Y_R, from Y_L* and Y_R*.
-pub fn cross_y<C: TweakableCipher>(c: &C, n: u32, s: DiBlock) -> DiBlock
-    ensures { result ≡ crossed (tweaked (C.encrypted c.now)) "yL" "yR" n s }
+// The left block encrypted with the right for its body, and then the right with the new left.
+pub fn chain<C: TweakableCipher>(c: &C, first: &str, second: &str, n: u32, d: DiBlock) -> DiBlock
+    requires first { is_some (number_of first.now) ≡ true }
+    requires second { is_some (number_of second.now) ≡ true }
+    ensures { result ≡ chained (tweaked_by (C.encrypted c.now)) first.now second.now n d }
 {
-    DiBlock {
-        left: c.encrypt(tweak("yL", n, s.right), s.left),
-        right: c.encrypt(tweak("yR", n, s.left), s.right),
-    }
-}
-
-// S and T.
-pub fn mix<C: TweakableCipher>(c: &C, n: u32, d: DiBlock) -> DiBlock
-    ensures { result ≡ mix_of (tweaked (C.encrypted c.now)) n d }
-{
-    let s = c.encrypt(tweak("ts", n, d.right), d.left);
-    DiBlock {
-        left: s,
-        right: c.encrypt(tweak("ss", n, s), d.right),
-    }
-}
-
-pub fn unmix<C: TweakableCipher>(c: &C, n: u32, st: DiBlock) -> DiBlock
-    ensures { result ≡ unmix_of (tweaked (C.encrypted c.now)) (tweaked (C.decrypted c.now)) n st }
-{
-    let right = c.decrypt(tweak("ss", n, st.left), st.right);
-    DiBlock {
-        left: c.decrypt(tweak("ts", n, right), st.left),
-        right,
-    }
-}
-
-// C_L and C_R, from S and T.
-pub fn close<C: TweakableCipher>(c: &C, n: u32, st: DiBlock) -> DiBlock
-    ensures { result ≡ close_of (tweaked (C.encrypted c.now)) n st }
-{
-    let left = c.encrypt(tweak("cs", n, st.right), st.left);
+    let left = c.encrypt(tweak(first, n, d.right), d.left);
     DiBlock {
         left,
-        right: c.encrypt(tweak("bs", n, left), st.right),
+        right: c.encrypt(tweak(second, n, left), d.right),
     }
 }
 
-pub fn unclose<C: TweakableCipher>(c: &C, n: u32, d: DiBlock) -> DiBlock
-    ensures { result ≡ unclose_of (tweaked (C.encrypted c.now)) (tweaked (C.decrypted c.now)) n d }
+// The chain taken back.
+pub fn unchain<C: TweakableCipher>(c: &C, first: &str, second: &str, n: u32, d: DiBlock) -> DiBlock
+    requires first { is_some (number_of first.now) ≡ true }
+    requires second { is_some (number_of second.now) ≡ true }
+    ensures { result ≡ unchained (tweaked_by (C.decrypted c.now)) first.now second.now n d }
 {
-    let t = c.decrypt(tweak("bs", n, d.left), d.right);
+    let right = c.decrypt(tweak(second, n, d.left), d.right);
     DiBlock {
-        left: c.decrypt(tweak("cs", n, t), d.left),
-        right: t,
+        left: c.decrypt(tweak(first, n, right), d.left),
+        right,
     }
 }
 

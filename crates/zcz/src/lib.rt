@@ -1,25 +1,40 @@
 #![tactic(auto)]
 // The wide-block mode ZCZ with its extension for messages that end in a partial di-block, written once for all
 // tweakable ciphers. It works in place over the caller's bytes.
-ghost use Rattle.std.specs.Prelude.{◌≡◌, length};
+ghost use Rattle.std.specs.Prelude.{◌≡◌, false, length, MatchResult};
 ghost use Rattle.block.specs.Answers.{answered};
-ghost use Rattle.mode.specs.Permutes.{enciphered, deciphered, Permutes};
+ghost use Rattle.mode.specs.Permutes.{admitted, enciphered, deciphered, Message, Permutes};
+ghost use Rattle.zcz.specs.declared.refusal.Refusal.TheVariants.{Length};
 ghost use Rattle.zcz.specs.Refusals.{numbers, answer};
 
+mod direction;
 mod ends;
 mod layers;
 pub mod refusal;
 mod sealing;
+mod sums;
 mod tail;
 
 use block::bytes::all_bytes;
 use cipher::tweakable::TweakableCipher;
+use direction::{Deciphering, Enciphering};
 use refusal::Refusal;
-use sealing::{decipher_message, encipher_message};
+use sealing::run;
 
 const SHORTEST: usize = 32;
 
 const LONGEST: usize = 65536;
+
+// Whether the mode takes a message of this length.
+fn admit(message: &[u8]) -> Result<(), Refusal>
+    ensures { MatchResult result (λ _. Message message.now) (λ e. (e ≡ Length) × (admitted (length message.now) ≡ false)) }
+{
+    if message.len() < SHORTEST || message.len() > LONGEST {
+        return Err(Refusal::Length);
+    }
+    all_bytes(message);
+    Ok(())
+}
 
 // Enciphers a message of 32 to 65,536 bytes in place. One of another length is refused and left as it is.
 pub fn encipher<C: TweakableCipher>(c: &C, message: &mut [u8]) -> Result<(), Refusal>
@@ -28,11 +43,8 @@ pub fn encipher<C: TweakableCipher>(c: &C, message: &mut [u8]) -> Result<(), Ref
     ensures back { deciphered (C.encrypted c.now) (C.decrypted c.now) message.new ≡ message.old }
     ensures permutes { Permutes (C.encrypted c.now) (C.decrypted c.now) }
 {
-    if message.len() < SHORTEST || message.len() > LONGEST {
-        return Err(Refusal::Length);
-    }
-    all_bytes(message);
-    encipher_message(c, message);
+    admit(message)?;
+    run::<C, Enciphering>(c, message);
     Ok(())
 }
 
@@ -43,10 +55,7 @@ pub fn decipher<C: TweakableCipher>(c: &C, message: &mut [u8]) -> Result<(), Ref
     ensures back { enciphered (C.encrypted c.now) message.new ≡ message.old }
     ensures permutes { Permutes (C.encrypted c.now) (C.decrypted c.now) }
 {
-    if message.len() < SHORTEST || message.len() > LONGEST {
-        return Err(Refusal::Length);
-    }
-    all_bytes(message);
-    decipher_message(c, message);
+    admit(message)?;
+    run::<C, Deciphering>(c, message);
     Ok(())
 }

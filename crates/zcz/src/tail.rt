@@ -11,7 +11,8 @@ use cipher::tweakable::TweakableCipher;
 
 // Writes a tail, one byte 80 hexadecimal, and zeros.
 fn pad_into(a: &mut [u8], t: &[u8])
-    requires { (length a.old ≡ 32) × (length t.now < 32) }
+    requires room { length a.old ≡ 32 }
+    requires short { length t.now < 32 }
     ensures { a.new ≡ t.now ++ (0x80 ∷ replicate (31 - length t.now) 0) }
 {
     let r = t.len();
@@ -30,7 +31,8 @@ fn padded(t: &[u8]) -> DiBlock
 }
 
 fn hash_tail<C: TweakableCipher>(c: &C, i: u32, t: &[u8]) -> DiBlock
-    requires { (length t.now < 32) × (i < 2 ^ 16) }
+    requires short { length t.now < 32 }
+    requires index { i < 2 ^ 16 }
     ensures { result ≡ tail_hash_of (tweaked (C.encrypted c.now)) i t.now }
 {
     if t.is_empty() {
@@ -42,7 +44,9 @@ fn hash_tail<C: TweakableCipher>(c: &C, i: u32, t: &[u8]) -> DiBlock
 
 // What the tail after n + 1 di-blocks adds to the last of them: nothing if it is empty.
 pub fn tail_hash<C: TweakableCipher>(c: &C, i: u32, m: &[u8], n: usize) -> DiBlock
-    requires { (32 * n + 32 ≤ length m.now) × ((length m.now < 32 * n + 64) × (i < 2 ^ 16)) }
+    requires full { 32 * n + 32 ≤ length m.now }
+    requires short { length m.now < 32 * n + 64 }
+    requires index { i < 2 ^ 16 }
     ensures { result ≡ tail_hash_of (tweaked (C.encrypted c.now)) i (drop (32 * n + 32) m.now) }
 {
     hash_tail(c, i, &m[32 * n + 32..])
@@ -52,8 +56,8 @@ fn add_bytes(t: &mut [u8], a: &[u8])
     requires { length t.old ≤ length a.now }
     ensures { t.new ≡ onto t.old a.now }
 {
-    for i in 0..t.len() {
-        t[i] = t[i] ^ a[i];
+    for (i, b) in t.iter_mut().enumerate() {
+        *b ^= a[i];
     }
 }
 
@@ -72,7 +76,8 @@ fn mask<C: TweakableCipher>(c: &C, t: &mut [u8], d: DiBlock)
 
 // Adds the first bytes of H(2; d) to the tail after n + 1 di-blocks.
 pub fn mask_tail<C: TweakableCipher>(c: &C, m: &mut [u8], n: usize, d: DiBlock)
-    requires { (32 * n + 32 ≤ length m.old) × (length m.old < 32 * n + 64) }
+    requires full { 32 * n + 32 ≤ length m.old }
+    requires short { length m.old < 32 * n + 64 }
     ensures { m.new ≡ take (32 * n + 32) m.old ++ onto (drop (32 * n + 32) m.old) (bytes_of (hash_of (tweaked (C.encrypted c.now)) 2 d)) }
 {
     mask(c, &mut m[32 * n + 32..], d);

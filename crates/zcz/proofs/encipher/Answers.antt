@@ -1,20 +1,19 @@
-use Rattle.std.proofs.Common.{◌≡◌, false, cond, [], ◌∷◌, length, sym, ap, ◌∙◌, arith}
-use Rattle.block.specs.Answers.{accepted, refused}
-use Rattle.mode.specs.Permutes.{admitted, enciphered, deciphered, Message}
-use Rattle.mode.proofs.Whole.{Lawful, admits, admits_none, is_enciphered, enciphered_back, not_enciphered, not_deciphered, permutes}
+use Rattle.std.proofs.Common.{◌≡◌, sym, ap, ◌∙◌, rules}
+use Rattle.mode.specs.Permutes.{enciphered, deciphered}
+use Rattle.mode.proofs.Whole.{Lawful, is_enciphered, enciphered_back, not_enciphered, not_deciphered, permutes}
 use Rattle.zcz.proofs.encipher.Goals as goal
 
-pub returns-then-message-lt-SHORTEST : goal.returns-then-message-lt-SHORTEST
-returns-then-message-lt-SHORTEST g c =
+pub returns-in_err-admit : goal.returns-in_err-admit
+returns-in_err-admit g c =
     let x = c.args.c.now in
     let f = g.C.TweakableCipher.encrypted x in
     let h = g.C.TweakableCipher.decrypted x in
     let met = g.met.C.TweakableCipher in
     let laws : Lawful f h = record { encfits = met.encfits x; decfits = met.decfits x; decenc = met.decenc x; encdec = met.encdec x } in
     let m = c.args.message.now in
-    let out : admitted (length m) ≡ false = admits_none (length m) c.then-message-lt-SHORTEST.either in
+    let out = c.in_err-admit.ensures.1 in
     record {
-      answer = ap (λ b. cond b (accepted tt) (refused (1 ∷ []))) (sym out);
+      answer = search rules;
       wrote = sym (not_enciphered f h laws m out);
       back = not_deciphered f h laws m out;
       permutes = permutes f h laws;
@@ -28,10 +27,10 @@ returns g c =
     let met = g.met.C.TweakableCipher in
     let laws : Lawful f h = record { encfits = met.encfits x; decfits = met.decfits x; decenc = met.decenc x; encdec = met.encdec x } in
     let m = c.args.message.now in
-    let ok : Message m = record { bytes = c.all_bytes.ensures; long = omega arith; short = omega arith } in
-    let wrote : c.encipher_message.new.m ≡ enciphered f m = c.encipher_message.ensures ∙ sym (is_enciphered f h laws m ok) in
+    let ok = c.in_ok-admit.ensures in
+    let wrote : c.run.new.m ≡ enciphered f m = c.run.ensures ∙ sym (is_enciphered f h laws m ok) in
     record {
-      answer = ap (λ b. cond b (accepted tt) (refused (1 ∷ []))) (sym (admits (length m) ok.long ok.short));
+      answer = search rules;
       wrote = wrote;
       back = ap (deciphered f h) wrote ∙ enciphered_back f h laws m ok;
       permutes = permutes f h laws;

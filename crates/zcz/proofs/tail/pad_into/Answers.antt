@@ -12,4 +12,4 @@ returns c =
     let copied = c.copy_from_slice.ensures.after in
     let zeros : f ≡ replicate (31 - length t) 0 = c.fill.ensures.after (λ y e. e) ∙ ap (λ k. replicate k 0) (simp (length-take, length-drop, length-set, length-append) (omega (arith, ap length copied))) in
     ap (λ x. put_mid (length t + 1) (32 - (length t + 1)) (set (x ++ post_of 0 (length t - 0) a) (length t) 128) f) copied
-    ∙ pad_is t a f c.requires.0 c.requires.1 zeros
+    ∙ pad_is t a f c.requires.room c.requires.short zeros
