@@ -2,11 +2,11 @@ use Rattle.std.proofs.Common.{Some, ap, ◌∙◌, arith}
 use Rattle.mode.specs.Permutes.{enciphered}
 use Rattle.page.specs.Pages.{plain}
 use Rattle.calls.proofs.Placing.{only_part, part_long}
-use Rattle.store.proofs.pages.write_record.Goals as goal
+use Rattle.store.proofs.store.Store.write_record.Goals as goal
 
 pub returns : goal.returns
 returns g c =
-    let w = c.args.geometry.page in
+    let w = c.args.self.now.geometry.page in
     let m = c.args.memory.now in
     let k = c.args.slot in
     let s = c.start-start.ensures in
@@ -16,4 +16,4 @@ returns g c =
     (omega (arith, c.seal_record.auto.page, long))
     (omega arith)
     (c.seal_record.ensures.wrote
-    ∙ ap (λ n. enciphered (g.C.TweakableCipher.encrypted c.args.c.now) (plain g.R.Record n k (Some c.args.content.now))) long)
+    ∙ ap (λ n. enciphered (g.C.TweakableCipher.encrypted c.args.self.now.cipher) (plain g.R.Record n k (Some c.args.content.now))) long)

@@ -1,14 +1,14 @@
 use Rattle.std.proofs.Common.{ap, ◌∙◌, arith}
 use Rattle.mode.specs.Permutes.{enciphered, deciphered}
 use Rattle.calls.proofs.Placing.{only_part, part-page, part_long}
-use Rattle.store.proofs.pages.move_page.Goals as goal
+use Rattle.store.proofs.store.Store.move_page.Goals as goal
 
 pub returns : goal.returns
 returns g c =
     let 𝒸 = g.C.TweakableCipher in
-    let from = c.args.from.now in
+    let from = c.args.self.now.cipher in
     let to = c.args.to.now in
-    let w = c.args.geometry.page in
+    let w = c.args.self.now.geometry.page in
     let m = c.args.memory.now in
     let k = c.args.slot in
     let s = c.start-start.ensures in
