@@ -116,9 +116,7 @@ impl<C: TweakableCipher + Drop> Store<C> {
     {
         self.check_memory(memory)?;
         self.check_slot(slot)?;
-        let start = self.geometry.start(slot);
-        let end = self.geometry.end(slot);
-        Ok(&memory[start..end])
+        Ok(&memory[self.geometry.range(slot)])
     }
 
     // Empties a slot. What is left does not depend on what the slot held.

@@ -19,9 +19,8 @@ impl<C: TweakableCipher> Store<C> {
         requires slot { slot < self.now.geometry.slots }
         ensures { Only self.now.geometry.page slot memory.old memory.new (sealed C.TweakableCipher R.Record self.now.geometry self.now.cipher slot (Some content.now)) }
     {
-        let start = self.geometry.start(slot);
-        let end = self.geometry.end(slot);
-        seal_record(&self.cipher, &mut memory[start..end], slot as u8, content);
+        let page = &mut memory[self.geometry.range(slot)];
+        seal_record(&self.cipher, page, slot as u8, content);
     }
 
     // Writes the page of an empty slot.
@@ -30,9 +29,8 @@ impl<C: TweakableCipher> Store<C> {
         requires slot { slot < self.now.geometry.slots }
         ensures { Only self.now.geometry.page slot memory.old memory.new (sealed C.TweakableCipher R.Record self.now.geometry self.now.cipher slot None) }
     {
-        let start = self.geometry.start(slot);
-        let end = self.geometry.end(slot);
-        seal_empty::<C, R>(&self.cipher, &mut memory[start..end], slot as u8);
+        let page = &mut memory[self.geometry.range(slot)];
+        seal_empty::<C, R>(&self.cipher, page, slot as u8);
     }
 
     // What the page of a slot says. It is opened in a working slice of a page's length.
@@ -47,9 +45,7 @@ impl<C: TweakableCipher> Store<C> {
         requires room { length working.old ≡ self.now.geometry.page }
         ensures { result ≡ said C.TweakableCipher R.Record self.now.geometry self.now.cipher memory.now slot }
     {
-        let start = self.geometry.start(slot);
-        let end = self.geometry.end(slot);
-        working.copy_from_slice(&memory[start..end]);
+        working.copy_from_slice(&memory[self.geometry.range(slot)]);
         unseal(&self.cipher, working, slot as u8)
     }
 
@@ -78,11 +74,10 @@ impl<C: TweakableCipher> Store<C> {
         requires room { length working.old ≡ self.now.geometry.page }
         ensures { Only self.now.geometry.page slot memory.old memory.new (enciphered (C.encrypted to.now) (deciphered (C.encrypted self.now.cipher) (C.decrypted self.now.cipher) (page self.now.geometry.page slot memory.old))) }
     {
-        let start = self.geometry.start(slot);
-        let end = self.geometry.end(slot);
-        working.copy_from_slice(&memory[start..end]);
+        let page = &mut memory[self.geometry.range(slot)];
+        working.copy_from_slice(page);
         let _ = decipher(&self.cipher, working);
         let _ = encipher(to, working);
-        memory[start..end].copy_from_slice(working);
+        page.copy_from_slice(working);
     }
 }

@@ -13,4 +13,4 @@ returns g c =
     let m = c.args.memory.now in
     let k = c.args.slot in
     c.unseal.ensures.answer
-    ∙ ap (λ x. opened_at 𝓇 k (deciphered (𝒸.encrypted key) (𝒸.decrypted key) x)) (c.copy_from_slice.ensures.after ∙ part-page w k m _ _ c.start-start.ensures c.end-end.ensures.value)
+    ∙ ap (λ x. opened_at 𝓇 k (deciphered (𝒸.encrypted key) (𝒸.decrypted key) x)) (c.copy_from_slice.ensures.after ∙ part-page w k m _ _ c.range.ensures.start c.range.ensures.end)

@@ -9,10 +9,10 @@ returns g c =
     let w = c.args.self.now.geometry.page in
     let m = c.args.memory.now in
     let k = c.args.slot in
-    let s = c.start-start.ensures in
-    let e = c.end-end.ensures.value in
+    let s = c.range.ensures.start in
+    let e = c.range.ensures.end in
     let long = part_long w k m _ _ s e (omega arith) in
-    only_part w k m c.seal_record.new.page c.start-start.result c.end-end.result _ s e
+    only_part w k m c.seal_record.new.page c.range.result.start c.range.result.end _ s e
     (omega (arith, c.seal_record.auto.page, long))
     (omega arith)
     (c.seal_record.ensures.wrote
