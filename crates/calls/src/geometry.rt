@@ -3,6 +3,7 @@ ghost use Rattle.block.specs.Answers.{answered_as};
 ghost use Rattle.calls.specs.Shapes.{numbers, answer};
 
 use shape::GeometryFault;
+use std::ops::{Range, RangeBounds};
 
 pub mod shape;
 
@@ -19,7 +20,7 @@ impl Geometry {
     pub fn new(slots: usize, page: usize) -> Result<Geometry, GeometryFault>
         ensures { answered_as (λ g. (g.slots, g.page)) numbers result ≡ answer slots page }
     {
-        if slots < 1 || slots > 64 || page < 64 || page > 4096 {
+        if !(1..=64).contains(&slots) || !(64..=4096).contains(&page) {
             return Err(GeometryFault);
         }
         Ok(Geometry { slots, page })
@@ -44,20 +45,14 @@ impl Geometry {
         self.slots * self.page
     }
 
-    // Where a page begins.
-    pub fn start(&self, slot: usize) -> usize
+    // Where the page of a slot stands.
+    pub fn range(&self, slot: usize) -> Range<usize>
         requires { slot < self.now.slots }
-        ensures { result ≡ slot * self.now.page }
+        ensures start { result.start ≡ slot * self.now.page }
+        ensures end { result.end ≡ slot * self.now.page + self.now.page }
+        ensures within { result.end ≤ self.now.slots * self.now.page }
     {
-        slot * self.page
-    }
-
-    // Where a page ends.
-    pub fn end(&self, slot: usize) -> usize
-        requires { slot < self.now.slots }
-        ensures value { result ≡ slot * self.now.page + self.now.page }
-        ensures within { result ≤ self.now.slots * self.now.page }
-    {
-        slot * self.page + self.page
+        let start = slot * self.page;
+        start..start + self.page
     }
 }

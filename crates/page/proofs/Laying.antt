@@ -1,9 +1,8 @@
--- A page laid out part by part, and bytes that are all zero.
+-- A page laid out part by part.
 use Rattle.std.proofs.Common.{◌≡◌, ℕ, ◌+◌, ◌-◌, ◌<◌, false, ◌&&◌, eqb, List, [], ◌∷◌, ◌++◌, length, get_or, drop, set, replicate, sym, refl, ap, ◌∙◌, ap₂, add-one, arith, drop-cons}
 use borrow.Rule.Slice.PartMut.{put_mid, post_of}
 use Rattle.std.proofs.lemmas.List.{length-append, take_at, drop_at, drop-replicate}
 use Rattle.std.proofs.lemmas.Bool.{eq-eqb, ne_eqb}
-use Rattle.page.specs.Pages.{zeros}
 
 -- a label of four bytes, a mark and a slot, written over 16 zeros
 pub head_is : (l : List ℕ) (m s : ℕ) → length l ≡ 4 → set (set (l ++ post_of 0 4 (replicate 16 0)) 4 m) 5 s ≡ l ++ (m ∷ s ∷ replicate 10 0)
@@ -25,12 +24,3 @@ body_is n w k head body e q =
     ap₂ (λ x y. x ++ (body ++ drop k y)) (take_at head rest 16 e) (drop_at head rest 16 e)
     ∙ ap (λ x. head ++ (body ++ x))
     (ap (drop k) (drop-replicate 16 n 0) ∙ drop-replicate k (n - 16) 0 ∙ ap (λ j. replicate j 0) (omega arith))
-
-zeros_from : (xs : List ℕ) (i : ℕ) → i < length xs → zeros (drop i xs) ≡ (eqb (get_or xs i 0) 0 && zeros (drop (i + 1) xs))
-zeros_from xs i h = ap zeros (drop-cons xs i 0 h) ∙ ap (λ k. eqb (get_or xs i 0) 0 && zeros (drop k xs)) (sym (add-one i))
-
-pub zeros_more : (xs : List ℕ) (i : ℕ) → i < length xs → get_or xs i 0 ≡ 0 → zeros (drop i xs) ≡ zeros (drop (i + 1) xs)
-zeros_more xs i h e = zeros_from xs i h ∙ ap (λ b. b && zeros (drop (i + 1) xs)) (eq-eqb (get_or xs i 0) 0 e)
-
-pub zeros_not : (xs : List ℕ) (i : ℕ) → i < length xs → (get_or xs i 0 ≡ 0 → ⊥) → zeros (drop i xs) ≡ false
-zeros_not xs i h e = zeros_from xs i h ∙ ap (λ b. b && zeros (drop (i + 1) xs)) (ne_eqb (get_or xs i 0) 0 e)

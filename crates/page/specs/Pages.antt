@@ -1,5 +1,6 @@
 -- The plain page of a slot, and what a page says.
-use Rattle.std.specs.Prelude.{ℕ, ◌+◌, ◌-◌, Bool, true, cond, ◌&&◌, List, [], ◌∷◌, ◌++◌, take, drop, replicate, Some, None, Ok, Err, Option, Result, ◌==◌}
+use Rattle.std.specs.Prelude.{ℕ, ◌+◌, ◌-◌, Bool, cond, List, [], ◌∷◌, ◌++◌, take, drop, replicate, Some, None, Ok, Err, Option, Result, ◌==◌}
+use Rattle.std.specs.List.{list_all}
 use Rattle.std.specs.Str.{bytes_eq}
 use Rattle.record.specs.declared.kind.Record as kind
 use Rattle.record.specs.declared.fault.FieldFault.{FieldFault}
@@ -17,8 +18,7 @@ plain 𝓇 size slot None = head 𝓇 0 slot ++ replicate (size - 16) 0
 plain 𝓇 size slot (Some r) = head 𝓇 1 slot ++ (𝓇.written r ++ replicate (size - (16 + 𝓇.width)) 0)
 
 abbrev pub zeros : List ℕ → Bool
-zeros [] = true
-zeros (b ∷ bs) = b == 0 && zeros bs
+zeros = list_all (λ b. b == 0)
 
 abbrev pub taken : {R : Type 0} → Result R FieldFault → Result (Option R) PageFault
 taken (Ok r) = Ok (Some r)

@@ -1,7 +1,7 @@
 ghost use Rattle.std.specs.Prelude.{◌≡◌, ◌≤◌, length, take, drop, Some, None};
 ghost use Rattle.std.specs.Str.{bytes_eq};
 ghost use Rattle.page.specs.Laws.{Told};
-ghost use Rattle.page.specs.Pages.{head as head_of, plain, zeros, opened, opened_at, slotted};
+ghost use Rattle.page.specs.Pages.{head as head_of, plain, zeros, opened, opened_at};
 
 use crate::fault::{PageFault, SlotFault};
 use record::fault::FieldFault;
@@ -35,7 +35,8 @@ pub fn lay_record<R: Record>(page: &mut [u8], slot: u8, content: &R)
     content.write(&mut page[HEAD..end]);
 }
 
-// The plain page of an empty slot.
+// The plain page of an empty slot. One function for both would take an `Option<&R>`, and a call with `None` in generic code
+// names a lifetime that the check cannot show the record to outlive.
 pub fn lay_empty<R: Record>(page: &mut [u8], slot: u8)
     requires { 64 ≤ length page.old }
     ensures { page.new ≡ plain R.Record (length page.old) slot None }
@@ -56,12 +57,7 @@ fn has_head<R: Record>(page: &[u8], mark: u8, slot: u8) -> bool
 fn is_zero(bytes: &[u8]) -> bool
     ensures { result ≡ zeros bytes.now }
 {
-    for b in bytes {
-        if *b != 0 {
-            return false;
-        }
-    }
-    true
+    bytes.iter().all(|b| *b == 0)
 }
 
 // Whether each byte from a place on is zero.
@@ -102,20 +98,11 @@ fn open_page<R: Record>(page: &[u8], slot: u8) -> Result<Option<R>, PageFault>
     Ok(Some(content))
 }
 
-fn at_slot<T>(slot: u8, r: Result<T, PageFault>) -> Result<T, SlotFault>
-    ensures { result ≡ slotted slot r }
-{
-    match r {
-        Ok(x) => Ok(x),
-        Err(fault) => Err(SlotFault { slot, fault }),
-    }
-}
-
 // What the plain page of a slot says: nothing, a record, or why it is no page of this slot.
 pub fn open<R: Record>(page: &[u8], slot: u8) -> Result<Option<R>, SlotFault>
     requires { 64 ≤ length page.now }
     ensures value { result ≡ opened_at R.Record slot page.now }
     ensures told { Told R.Record }
 {
-    at_slot(slot, open_page::<R>(page, slot))
+    open_page::<R>(page, slot).map_err(|fault| SlotFault { slot, fault })
 }

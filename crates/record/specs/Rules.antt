@@ -1,5 +1,6 @@
 -- Rules that the fields of a record keep, in the order of the fields.
-use Rattle.std.specs.Prelude.{◌≡◌, ℕ, suc, ◌≤◌, Bool, cond, ◌&&◌, List, [], ◌∷◌, ℤ, Option, MatchOption, ◌==◌, int_le, nat_le}
+use Rattle.std.specs.Prelude.{◌≡◌, ℕ, suc, ◌≤◌, Bool, cond, ◌&&◌, List, [], ◌∷◌, ℤ, Result, MatchResult, ◌==◌, int_le, nat_le}
+use Rattle.record.specs.declared.fault.FieldFault.{FieldFault}
 
 abbrev pub within : ℕ → ℕ → ℕ → Bool
 within low high x = nat_le low x && nat_le x high
@@ -20,6 +21,6 @@ lowest bs = broken 1 bs
 abbrev pub kept : List Bool → Bool
 kept bs = lowest bs == 0
 
--- the lowest wrong field, where there is one
-abbrev pub Named : List Bool → Option ℕ → Type 0
-Named bs r = MatchOption r (lowest bs ≡ 0) (λ k. (1 ≤ k) × (lowest bs ≡ k))
+-- the lowest wrong field, where there is one, is refused
+abbrev pub Judged : List Bool → Result (Unit {0}) FieldFault → Type 0
+Judged bs r = MatchResult r (λ _. lowest bs ≡ 0) (λ e. (1 ≤ e.field) × (lowest bs ≡ e.field))

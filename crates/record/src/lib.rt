@@ -4,6 +4,7 @@ pub mod fault;
 pub mod fields;
 pub mod kind;
 pub mod parameters;
+mod rule;
 pub mod setting;
 pub mod sheet;
 mod sixteen;

@@ -6,7 +6,7 @@ use crate::setting::ParameterFields;
 mod making;
 
 // A parameter set. None exists whose fields are out of range.
-#[derive(Clone, Copy)]
+#[derive(Clone, Copy, PartialEq, Eq)]
 pub struct ParameterSet {
     fields: ParameterFields,
     ghost ok: { T (sound fields) },

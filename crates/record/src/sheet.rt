@@ -6,7 +6,7 @@ use crate::fields::SheetFields;
 mod making;
 
 // A commissioning sheet. None exists whose fields are out of range.
-#[derive(Clone, Copy)]
+#[derive(Clone, Copy, PartialEq, Eq)]
 pub struct Sheet {
     fields: SheetFields,
     ghost ok: { T (sound fields) },

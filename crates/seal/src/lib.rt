@@ -12,7 +12,8 @@ use zcz::{decipher, encipher};
 
 // Seals the page of a slot that holds a record. Unsealing it under the same cipher gives that record.
 pub fn seal_record<C: TweakableCipher, R: Record>(c: &C, page: &mut [u8], slot: u8, content: &R)
-    requires { (64 ≤ length page.old) × (length page.old ≤ 4096) }
+    requires long { 64 ≤ length page.old }
+    requires short { length page.old ≤ 4096 }
     ensures wrote { page.new ≡ enciphered (C.encrypted c.now) (plain R.Record (length page.old) slot (Some content.now)) }
     ensures back { opened_at R.Record slot (deciphered (C.encrypted c.now) (C.decrypted c.now) page.new) ≡ Ok (Some content.now) }
 {
@@ -22,7 +23,8 @@ pub fn seal_record<C: TweakableCipher, R: Record>(c: &C, page: &mut [u8], slot: 
 
 // Seals the page of an empty slot. Unsealing it under the same cipher gives nothing.
 pub fn seal_empty<C: TweakableCipher, R: Record>(c: &C, page: &mut [u8], slot: u8)
-    requires { (64 ≤ length page.old) × (length page.old ≤ 4096) }
+    requires long { 64 ≤ length page.old }
+    requires short { length page.old ≤ 4096 }
     ensures wrote { page.new ≡ enciphered (C.encrypted c.now) (plain R.Record (length page.old) slot None) }
     ensures back { opened_at R.Record slot (deciphered (C.encrypted c.now) (C.decrypted c.now) page.new) ≡ Ok None }
 {
@@ -36,7 +38,8 @@ pub fn unseal<C: TweakableCipher, R: Record>(
     page: &mut [u8],
     slot: u8,
 ) -> Result<Option<R>, SlotFault>
-    requires { (64 ≤ length page.old) × (length page.old ≤ 4096) }
+    requires long { 64 ≤ length page.old }
+    requires short { length page.old ≤ 4096 }
     ensures answer { result ≡ opened_at R.Record slot (deciphered (C.encrypted c.now) (C.decrypted c.now) page.old) }
     ensures wrote { page.new ≡ deciphered (C.encrypted c.now) (C.decrypted c.now) page.old }
 {

@@ -4,8 +4,10 @@ ghost use Rattle.calls.specs.Memory.{Sized};
 ghost use Rattle.calls.specs.Calls.{Why, Formed, Put, Forgot, Got, Stored, Changed};
 ghost use Rattle.calls.specs.Runs.{Law};
 
-use crate::all::{change_guarded, write_all};
-use crate::pages::{read_guarded, write_empty, write_record};
+mod all;
+mod pages;
+mod wipe;
+
 use calls::geometry::Geometry;
 use calls::refusal::Refusal;
 use cipher::tweakable::TweakableCipher;
@@ -20,7 +22,8 @@ pub struct Store<C> {
 
 impl<C: TweakableCipher + Drop> Store<C> {
     pub fn new(cipher: C, geometry: Geometry) -> Store<C>
-        ensures { (result.cipher ≡ cipher) × (result.geometry ≡ geometry) }
+        ensures cipher { result.cipher ≡ cipher }
+        ensures geometry { result.geometry ≡ geometry }
     {
         Store { cipher, geometry }
     }
@@ -75,7 +78,7 @@ impl<C: TweakableCipher + Drop> Store<C> {
         ensures law { Law C.TweakableCipher R.Record }
     {
         self.check_memory(memory)?;
-        write_all::<C, R>(&self.cipher, self.geometry, memory);
+        self.write_all::<R>(memory);
         Ok(())
     }
 
@@ -85,7 +88,7 @@ impl<C: TweakableCipher + Drop> Store<C> {
     {
         self.check_memory(memory)?;
         self.check_slot(slot)?;
-        write_record(&self.cipher, self.geometry, memory, slot, content);
+        self.write_record(memory, slot, content);
         Ok(())
     }
 
@@ -103,13 +106,7 @@ impl<C: TweakableCipher + Drop> Store<C> {
         self.check_slot(slot)?;
         self.check_working(working)?;
         let page = self.geometry.page();
-        let content = read_guarded(
-            &self.cipher,
-            self.geometry,
-            memory,
-            slot,
-            &mut working[0..page],
-        )?;
+        let content = self.read_guarded(memory, slot, &mut working[0..page])?;
         Ok(content)
     }
 
@@ -119,9 +116,7 @@ impl<C: TweakableCipher + Drop> Store<C> {
     {
         self.check_memory(memory)?;
         self.check_slot(slot)?;
-        let start = self.geometry.start(slot);
-        let end = self.geometry.end(slot);
-        Ok(&memory[start..end])
+        Ok(&memory[self.geometry.range(slot)])
     }
 
     // Empties a slot. What is left does not depend on what the slot held.
@@ -131,7 +126,7 @@ impl<C: TweakableCipher + Drop> Store<C> {
     {
         self.check_memory(memory)?;
         self.check_slot(slot)?;
-        write_empty::<C, R>(&self.cipher, self.geometry, memory, slot);
+        self.write_empty::<R>(memory, slot);
         Ok(())
     }
 
@@ -149,13 +144,7 @@ impl<C: TweakableCipher + Drop> Store<C> {
         self.check_memory(memory)?;
         self.check_working(working)?;
         let page = self.geometry.page();
-        change_guarded::<C, R>(
-            &self.cipher,
-            &to,
-            self.geometry,
-            memory,
-            &mut working[0..page],
-        )?;
+        self.change_guarded::<R>(&to, memory, &mut working[0..page])?;
         self.cipher = to;
         Ok(())
     }

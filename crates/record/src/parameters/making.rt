@@ -1,7 +1,7 @@
 ghost use Rattle.std.specs.Prelude.{◌≡◌, pos, neg_ℤ, codes, refl};
 ghost use Rattle.block.specs.Answers.{answered_as};
 ghost use Rattle.record.specs.Makings.{numbers};
-ghost use Rattle.record.specs.Rules.{within, between, Named};
+ghost use Rattle.record.specs.Rules.{Judged};
 ghost use Rattle.record.specs.Settings.{rules, wide as wide_of};
 ghost use Rattle.record.specs.Parameters.{making, answer, writing, reading as reading_of};
 ghost use Rattle.record.specs.ParameterReading.{under_encoded, read_written, written_read};
@@ -10,20 +10,10 @@ ghost use Rattle.std.proofs.Common.{rules as lemmas, arith};
 use super::ParameterSet;
 use crate::fault::FieldFault;
 use crate::kind::Record;
+use crate::rule::{is_within, require};
 use crate::setting::ParameterFields;
 use crate::sixteen::{from_twos, read_sixteen, to_twos, write_sixteens};
-
-fn is_within(low: u32, high: u32, x: u32) -> bool
-    ensures { result ≡ within low high x }
-{
-    low <= x && x <= high
-}
-
-fn is_shift(x: i32) -> bool
-    ensures { result ≡ between (neg_ℤ (pos 100)) (pos 100) x }
-{
-    -100 <= x && x <= 100
-}
+use std::ops::RangeBounds;
 
 impl ParameterFields {
     // The four numbers of 16 bits in order.
@@ -33,26 +23,15 @@ impl ParameterFields {
         [self.slope, to_twos(self.shift), self.flow, self.water]
     }
 
-    // The lowest field that breaks its range or rule.
-    fn wrong(&self) -> Option<u8>
-        ensures { Named (rules self.now) result }
+    // The lowest field that breaks its range or rule, if there is one, is refused.
+    fn check(&self) -> Result<(), FieldFault>
+        ensures { Judged (rules self.now) result }
     {
-        if !is_within(10, 350, self.slope) {
-            return Some(1);
-        }
-        if !is_shift(self.shift) {
-            return Some(2);
-        }
-        if !is_within(200, 650, self.flow) {
-            return Some(3);
-        }
-        if !is_within(300, self.flow, self.water) {
-            return Some(4);
-        }
-        if self.mode > 3 {
-            return Some(5);
-        }
-        None
+        require(1, is_within(10, 350, self.slope))?;
+        require(2, (-100..=100).contains(&self.shift))?;
+        require(3, is_within(200, 650, self.flow))?;
+        require(4, is_within(300, self.flow, self.water))?;
+        require(5, is_within(0, 3, self.mode))
     }
 }
 
@@ -62,10 +41,8 @@ impl ParameterSet {
         ensures value { result ≡ making fields }
         ensures answer { answered_as (λ s. s.fields) numbers result ≡ answer fields }
     {
-        match fields.wrong() {
-            None => Ok(ParameterSet { fields }),
-            Some(field) => Err(FieldFault { field }),
-        }
+        fields.check()?;
+        Ok(ParameterSet { fields })
     }
 
     pub fn fields(&self) -> ParameterFields
@@ -88,9 +65,9 @@ impl Record for ParameterSet {
 
     ghost reading = { reading_of };
 
-    ghost four = { first_of (Prim.search lemmas, Prim.grind (arith, Self.row.coded.inj)) };
+    ghost four = { (refl, Prim.search lemmas) };
 
-    ghost narrow = { first_of (Prim.search lemmas, Prim.grind (arith, Self.row.coded.inj)) };
+    ghost narrow = { (omega arith, omega arith) };
 
     ghost long = { λ s. (refl, under_encoded s.fields s.ok) };
 

@@ -1,9 +1,10 @@
-ghost use Rattle.std.specs.Prelude.{◌≡◌, codes};
+ghost use Rattle.std.specs.Prelude.{◌≡◌, codes, refl};
 ghost use Rattle.block.specs.Answers.{answered_as};
 ghost use Rattle.record.specs.Makings.{numbers};
-ghost use Rattle.record.specs.Rules.{within, Named};
+ghost use Rattle.record.specs.Rules.{Judged};
 ghost use Rattle.record.specs.Fields.{rules, list_of, fields_of};
 ghost use Rattle.record.specs.Sheets.{making, answer, writing, reading as reading_of};
+ghost use Rattle.record.specs.Numbers.{under_sixteens};
 ghost use Rattle.record.specs.Reading.{read_written, written_read};
 ghost use Rattle.std.proofs.Common.{rules as lemmas, arith};
 
@@ -11,40 +12,31 @@ use super::Sheet;
 use crate::fault::FieldFault;
 use crate::fields::SheetFields;
 use crate::kind::Record;
+use crate::rule::{is_within, require};
 use crate::sixteen::{read_sixteen, write_sixteens};
 
-fn is_sensor(x: u32) -> bool
-    ensures { result ≡ within 1 9999 x }
-{
-    1 <= x && x <= 9999
-}
+// The seven numbers in order.
+impl From<SheetFields> for [u32; 7] {
+    ghost from_gives = { λ f n. n ≡ list_of f };
 
-fn is_reading(x: u32) -> bool
-    ensures { result ≡ within 0 1000 x }
-{
-    x <= 1000
-}
-
-impl SheetFields {
-    // The seven numbers in order.
-    pub fn numbers(self) -> [u32; 7]
-        ensures { result ≡ list_of self }
-    {
+    fn from(fields: SheetFields) -> [u32; 7] {
         [
-            self.sensor1,
-            self.sensor2,
-            self.flow,
-            self.returned,
-            self.water,
-            self.room,
-            self.brine,
+            fields.sensor1,
+            fields.sensor2,
+            fields.flow,
+            fields.returned,
+            fields.water,
+            fields.room,
+            fields.brine,
         ]
     }
+}
 
-    // The fields of seven numbers in order.
-    pub fn of(list: [u32; 7]) -> SheetFields
-        ensures { result ≡ fields_of list }
-    {
+// The fields of seven numbers in order.
+impl From<[u32; 7]> for SheetFields {
+    ghost from_gives = { λ n f. f ≡ fields_of n };
+
+    fn from(list: [u32; 7]) -> SheetFields {
         SheetFields {
             sensor1: list[0],
             sensor2: list[1],
@@ -55,33 +47,23 @@ impl SheetFields {
             brine: list[6],
         }
     }
+}
 
-    // The lowest field that breaks its range or rule.
-    fn wrong(&self) -> Option<u8>
-        ensures { Named (rules self.now) result }
+impl SheetFields {
+    // The lowest field that breaks its range or rule, if there is one, is refused.
+    fn check(&self) -> Result<(), FieldFault>
+        ensures { Judged (rules self.now) result }
     {
-        if !is_sensor(self.sensor1) {
-            return Some(1);
-        }
-        if !is_sensor(self.sensor2) || self.sensor2 == self.sensor1 {
-            return Some(2);
-        }
-        if !is_reading(self.flow) {
-            return Some(3);
-        }
-        if !is_reading(self.returned) {
-            return Some(4);
-        }
-        if !is_reading(self.water) {
-            return Some(5);
-        }
-        if !is_reading(self.room) {
-            return Some(6);
-        }
-        if !is_reading(self.brine) {
-            return Some(7);
-        }
-        None
+        require(1, is_within(1, 9999, self.sensor1))?;
+        require(
+            2,
+            is_within(1, 9999, self.sensor2) && self.sensor2 != self.sensor1,
+        )?;
+        require(3, is_within(0, 1000, self.flow))?;
+        require(4, is_within(0, 1000, self.returned))?;
+        require(5, is_within(0, 1000, self.water))?;
+        require(6, is_within(0, 1000, self.room))?;
+        require(7, is_within(0, 1000, self.brine))
     }
 }
 
@@ -91,10 +73,8 @@ impl Sheet {
         ensures value { result ≡ making fields }
         ensures answer { answered_as (λ s. s.fields) numbers result ≡ answer fields }
     {
-        match fields.wrong() {
-            None => Ok(Sheet { fields }),
-            Some(field) => Err(FieldFault { field }),
-        }
+        fields.check()?;
+        Ok(Sheet { fields })
     }
 
     pub fn fields(&self) -> SheetFields
@@ -117,11 +97,11 @@ impl Record for Sheet {
 
     ghost reading = { reading_of };
 
-    ghost four = { first_of (Prim.search lemmas, Prim.grind (arith, Self.row.coded.inj)) };
+    ghost four = { (refl, Prim.search lemmas) };
 
-    ghost narrow = { first_of (Prim.search lemmas, Prim.grind (arith, Self.row.coded.inj)) };
+    ghost narrow = { (omega arith, omega arith) };
 
-    ghost long = { first_of (Prim.search lemmas, Prim.grind (arith, Self.row.coded.inj)) };
+    ghost long = { λ s. (refl, under_sixteens (list_of s.fields)) };
 
     ghost readback = { λ s. read_written s };
 
@@ -136,7 +116,7 @@ impl Record for Sheet {
     }
 
     fn write(&self, out: &mut [u8]) {
-        write_sixteens(out, &self.fields.numbers());
+        write_sixteens(out, &<[u32; 7]>::from(self.fields));
     }
 
     fn read(bytes: &[u8]) -> Result<Sheet, FieldFault> {

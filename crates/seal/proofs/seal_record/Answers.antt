@@ -11,5 +11,5 @@ returns g c =
     record {
       wrote = c.encipher.ensures.wrote ∙ ap (enciphered (g.C.TweakableCipher.encrypted c.args.c.now)) c.lay_record.ensures;
       back = sealed_says g.R.Record (told g.R.Record laws.four.0 laws.narrow (λ r. (laws.long r).0) laws.readback laws.writeback)
-          n c.args.slot (Some c.args.content.now) c.requires.0 _ (c.encipher.ensures.back ∙ c.lay_record.ensures);
+          n c.args.slot (Some c.args.content.now) c.requires.long _ (c.encipher.ensures.back ∙ c.lay_record.ensures);
     }

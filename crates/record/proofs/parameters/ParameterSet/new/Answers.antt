@@ -1,18 +1,20 @@
-use Rattle.std.proofs.Common.{sym, refl}
-use Rattle.record.specs.Settings.{rules}
+use Rattle.std.proofs.Common.{◌≡◌, Err, sym, refl, ◌∙◌, rules}
+use Rattle.record.specs.Settings.{rules as rules-of}
 use Rattle.record.specs.Parameters.{made}
 use Rattle.record.specs.Made.{making-sound, making_wrong, making-answer}
 use Rattle.record.proofs.parameters.ParameterSet.new.Goals as goal
 
-pub returns-in-None : goal.returns-in-None
-returns-in-None c =
+pub returns : goal.returns
+returns c =
     let f = c.args.fields in
-    let made-is = sym (making-sound rules made f _) in
-    record { value = made-is; answer = making-answer rules made (λ s. s.fields) (λ g p. refl) f _ made-is }
+    let made-is = sym (making-sound rules-of made f _) in
+    record { value = made-is; answer = making-answer rules-of made (λ s. s.fields) (λ g p. refl) f _ made-is }
 
-pub returns-in-Some : goal.returns-in-Some
-returns-in-Some c =
+pub returns-in_err-check : goal.returns-in_err-check
+returns-in_err-check c =
     let f = c.args.fields in
-    let told = c.in-Some.ensures in
-    let made-is = sym (making_wrong rules made f c.in-Some.field told.0 told.1) in
-    record { value = made-is; answer = making-answer rules made (λ s. s.fields) (λ g p. refl) f _ made-is }
+    let fault = c.in_err-check.field-0.0 in
+    let wrong = c.in_err-check.ensures in
+    let is : c.from_residual.result ≡ Err fault = search rules in
+    let made-is = is ∙ sym (making_wrong rules-of made f fault.field wrong.0 wrong.1) in
+    record { value = made-is; answer = making-answer rules-of made (λ s. s.fields) (λ g p. refl) f _ made-is }

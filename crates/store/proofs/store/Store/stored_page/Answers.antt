@@ -5,5 +5,5 @@ pub returns : goal.returns
 returns g c = (
   c.in_ok-check_memory.ensures,
   c.in_ok-check_slot.ensures,
-  part-page c.args.self.now.geometry.page c.args.slot c.args.memory.now _ _ c.start-start.ensures c.end-end.ensures.value,
+  part-page c.args.self.now.geometry.page c.args.slot c.args.memory.now _ _ c.range.ensures.start c.range.ensures.end,
 )

@@ -8,5 +8,5 @@ pub returns : goal.returns
 returns c =
     let out = c.args.out.now in
     c.write_sixteens.ensures
-    ∙ ap (λ ns. sixteens ns ++ drop (2 * length ns) out) c.numbers.ensures
+    ∙ ap (λ ns. sixteens ns ++ drop (2 * length ns) out) c.from.ensures
     ∙ ap (λ r. encoded c.args.self.now.fields ++ r) (drop_all 14 out (omega arith))

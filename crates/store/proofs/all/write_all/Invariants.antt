@@ -1,7 +1,0 @@
-use Rattle.std.proofs.Common.{◌≡◌, ℕ, ◌<◌, None}
-use Rattle.calls.specs.Memory.{page}
-use Rattle.calls.specs.Calls.{sealed}
-use Rattle.store.proofs.all.write_all.Given as goal
-
-abbrev pub invariant-loop-slot : goal.invariant-loop-slot
-invariant-loop-slot g l = (k : ℕ) → k < l.slot → page l.geometry.page k l.memory ≡ sealed g.C.TweakableCipher g.R.Record l.geometry l.c k None
