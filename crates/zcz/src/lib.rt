@@ -20,6 +20,7 @@ use cipher::tweakable::TweakableCipher;
 use direction::{Deciphering, Enciphering};
 use refusal::Refusal;
 use sealing::run;
+use std::ops::RangeBounds;
 
 const SHORTEST: usize = 32;
 
@@ -29,7 +30,7 @@ const LONGEST: usize = 65536;
 fn admit(message: &[u8]) -> Result<(), Refusal>
     ensures { MatchResult result (λ _. Message message.now) (λ e. (e ≡ Length) × (admitted (length message.now) ≡ false)) }
 {
-    if message.len() < SHORTEST || message.len() > LONGEST {
+    if !(SHORTEST..=LONGEST).contains(&message.len()) {
         return Err(Refusal::Length);
     }
     all_bytes(message);
