@@ -36,23 +36,23 @@ never : {R : Type 0} {P : Type 0} (e : PageFault) (o : Option R) → Err e ≡ O
 never e o q = let z : ◌≡◌ {A = ℕ} 0 1 = cc in absurd (omega arith)
 
 module _ {R : Type 0} (𝓇 : kind.Ghosts R)
-    (four : length 𝓇.label ≡ 4)
-    (narrow : (1 ≤ 𝓇.width) × (𝓇.width ≤ 48))
-    (long : (r : R) → length (𝓇.written r) ≡ 𝓇.width)
+    (four : length 𝓇.LABEL ≡ 4)
+    (narrow : (1 ≤ 𝓇.WIDTH) × (𝓇.WIDTH ≤ 48))
+    (long : (r : R) → length (𝓇.written r) ≡ 𝓇.WIDTH)
     (readback : (r : R) → 𝓇.reading (𝓇.written r) ≡ Ok r)
-    (writeback : (x : List ℕ) (r : R) → length x ≡ 𝓇.width → AllBelowBase 256 x → 𝓇.reading x ≡ Ok r → 𝓇.written r ≡ x) where
+    (writeback : (x : List ℕ) (r : R) → length x ≡ 𝓇.WIDTH → AllBelowBase 256 x → 𝓇.reading x ≡ Ok r → 𝓇.written r ≡ x) where
   head16 : (m s : ℕ) → length (head 𝓇 m s) ≡ 16
-  head16 m s = head_long 𝓇.label m s four
+  head16 m s = head_long 𝓇.LABEL m s four
 
   opened_empty : (slot : ℕ) (x : List ℕ) → bytes_eq (take 16 x) (head 𝓇 0 slot) ≡ true → zeros (drop 16 x) ≡ true → opened 𝓇 slot x ≡ Ok None
   opened_empty slot x p q = cond-true (bytes_eq (take 16 x) (head 𝓇 0 slot)) _ _ p ∙ cond-true (zeros (drop 16 x)) _ _ q
 
   opened-held : (slot : ℕ) (x : List ℕ) → bytes_eq (take 16 x) (head 𝓇 0 slot) ≡ false → bytes_eq (take 16 x) (head 𝓇 1 slot) ≡ true
-      → zeros (drop (16 + 𝓇.width) x) ≡ true → opened 𝓇 slot x ≡ taken (𝓇.reading (take 𝓇.width (drop 16 x)))
+      → zeros (drop (16 + 𝓇.WIDTH) x) ≡ true → opened 𝓇 slot x ≡ taken (𝓇.reading (take 𝓇.WIDTH (drop 16 x)))
   opened-held slot x p q r =
       cond-false (bytes_eq (take 16 x) (head 𝓇 0 slot)) _ _ p
       ∙ cond-true (bytes_eq (take 16 x) (head 𝓇 1 slot)) _ _ q
-      ∙ cond-true (zeros (drop (16 + 𝓇.width) x)) _ _ r
+      ∙ cond-true (zeros (drop (16 + 𝓇.WIDTH) x)) _ _ r
 
   there : (size slot : ℕ) (o : Option R) → 64 ≤ size → opened 𝓇 slot (plain 𝓇 size slot o) ≡ Ok o
   there size slot None h =
@@ -62,14 +62,14 @@ module _ {R : Type 0} (𝓇 : kind.Ghosts R)
       (ap (λ y. bytes_eq y (head 𝓇 0 slot)) (take_at (head 𝓇 0 slot) (replicate n 0) 16 (head16 0 slot)) ∙ same_self (head 𝓇 0 slot))
       (ap zeros (drop_at (head 𝓇 0 slot) (replicate n 0) 16 (head16 0 slot)) ∙ zeros-replicate n)
   there size slot (Some r) h =
-      let w : ℕ = 𝓇.width in
+      let w : ℕ = 𝓇.WIDTH in
       let n : ℕ = size - (16 + w) in
       let rest : List ℕ = 𝓇.written r ++ replicate n 0 in
       let x : List ℕ = head 𝓇 1 slot ++ rest in
       let front : take 16 x ≡ head 𝓇 1 slot = take_at (head 𝓇 1 slot) rest 16 (head16 1 slot) in
       let after : drop 16 x ≡ rest = drop_at (head 𝓇 1 slot) rest 16 (head16 1 slot) in
       opened-held slot x
-      (ap (λ y. bytes_eq y (head 𝓇 0 slot)) front ∙ same_after 𝓇.label _ _)
+      (ap (λ y. bytes_eq y (head 𝓇 0 slot)) front ∙ same_after 𝓇.LABEL _ _)
       (ap (λ y. bytes_eq y (head 𝓇 1 slot)) front ∙ same_self (head 𝓇 1 slot))
       (ap zeros (sym (drop-drop w 16 x) ∙ ap (drop w) after ∙ drop_at (𝓇.written r) (replicate n 0) w (long r)) ∙ zeros-replicate n)
       ∙ ap (λ y. taken (𝓇.reading y)) (ap (take w) after ∙ take_at (𝓇.written r) (replicate n 0) w (long r))
@@ -81,7 +81,7 @@ module _ {R : Type 0} (𝓇 : kind.Ghosts R)
     by empty rest held past r = cond empty (cond rest (Ok None) (Err Head)) (cond held (cond past (taken r) (Err Head)) (Err Head))
 
     abbrev w : ℕ
-    w = 𝓇.width
+    w = 𝓇.WIDTH
 
     empty_back : bytes_eq (take 16 x) (head 𝓇 0 slot) ≡ true → zeros (drop 16 x) ≡ true → plain 𝓇 (length x) slot None ≡ x
     empty_back p q =

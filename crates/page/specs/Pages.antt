@@ -10,12 +10,12 @@ use Rattle.page.specs.declared.fault.SlotFault.{SlotFault}
 
 -- the label, a mark, 0 for an empty slot and 1 for one that holds a record, the slot, and ten zeros
 abbrev pub head : {R : Type 0} → kind.Ghosts R → ℕ → ℕ → List ℕ
-head 𝓇 mark slot = 𝓇.label ++ (mark ∷ slot ∷ replicate 10 0)
+head 𝓇 mark slot = 𝓇.LABEL ++ (mark ∷ slot ∷ replicate 10 0)
 
 -- the plain page of `size` bytes for what a slot holds
 abbrev pub plain : {R : Type 0} → kind.Ghosts R → ℕ → ℕ → Option R → List ℕ
 plain 𝓇 size slot None = head 𝓇 0 slot ++ replicate (size - 16) 0
-plain 𝓇 size slot (Some r) = head 𝓇 1 slot ++ (𝓇.written r ++ replicate (size - (16 + 𝓇.width)) 0)
+plain 𝓇 size slot (Some r) = head 𝓇 1 slot ++ (𝓇.written r ++ replicate (size - (16 + 𝓇.WIDTH)) 0)
 
 abbrev pub zeros : List ℕ → Bool
 zeros = list_all (λ b. b == 0)
@@ -29,7 +29,7 @@ abbrev pub opened : {R : Type 0} → kind.Ghosts R → ℕ → List ℕ → Resu
 opened 𝓇 slot x =
     cond (bytes_eq (take 16 x) (head 𝓇 0 slot)) (cond (zeros (drop 16 x)) (Ok None) (Err Head))
     (cond (bytes_eq (take 16 x) (head 𝓇 1 slot))
-    (cond (zeros (drop (16 + 𝓇.width) x)) (taken (𝓇.reading (take 𝓇.width (drop 16 x)))) (Err Head))
+    (cond (zeros (drop (16 + 𝓇.WIDTH) x)) (taken (𝓇.reading (take 𝓇.WIDTH (drop 16 x)))) (Err Head))
     (Err Head))
 
 -- a fault with the slot added

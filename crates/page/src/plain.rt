@@ -19,7 +19,7 @@ fn write_head<R: Record>(out: &mut [u8], mark: u8, slot: u8)
     ensures { out.new ≡ head_of R.Record mark slot }
 {
     out.fill(0);
-    out[0..4].copy_from_slice(&R::tag());
+    out[0..4].copy_from_slice(&R::LABEL);
     out[4] = mark;
     out[5] = slot;
 }
@@ -31,7 +31,7 @@ pub fn lay_record<R: Record>(page: &mut [u8], slot: u8, content: &R)
 {
     page.fill(0);
     write_head::<R>(&mut page[0..HEAD], HOLDING, slot);
-    let end = HEAD + R::size();
+    let end = HEAD + R::WIDTH;
     content.write(&mut page[HEAD..end]);
 }
 
@@ -71,9 +71,9 @@ fn is_zero_from(page: &[u8], at: usize) -> bool
 // The record after a page's head.
 fn read_content<R: Record>(page: &[u8]) -> Result<R, FieldFault>
     requires { 64 ≤ length page.now }
-    ensures { result ≡ R.Record.reading (take R.Record.width (drop 16 page.now)) }
+    ensures { result ≡ R.Record.reading (take R.Record.WIDTH (drop 16 page.now)) }
 {
-    let end = HEAD + R::size();
+    let end = HEAD + R::WIDTH;
     R::read(&page[HEAD..end])
 }
 
@@ -91,7 +91,7 @@ fn open_page<R: Record>(page: &[u8], slot: u8) -> Result<Option<R>, PageFault>
     if !has_head::<R>(page, HOLDING, slot) {
         return Err(PageFault::Head);
     }
-    if !is_zero_from(page, HEAD + R::size()) {
+    if !is_zero_from(page, HEAD + R::WIDTH) {
         return Err(PageFault::Head);
     }
     let content = read_content::<R>(page)?;

@@ -12,36 +12,29 @@ pub trait Record: Sized {
 
     const WIDTH: usize;
 
-    ghost label: { List ℕ };
+    ghost LABEL: { List ℕ };
 
-    ghost width: { ℕ };
+    ghost WIDTH: { ℕ };
 
     ghost written: { Self → List ℕ };
 
     ghost reading: { List ℕ → Result Self FieldFault };
 
-    // The two constants, for code that is generic in the kind: a clause cannot name them there.
-    fn tag() -> [u8; 4]
-        ensures { result ≡ label };
-
-    fn size() -> usize
-        ensures { result ≡ width };
-
     fn write(&self, out: &mut [u8])
-        requires { length out.old ≡ width }
+        requires { length out.old ≡ WIDTH }
         ensures { out.new ≡ written self.now };
 
     fn read(bytes: &[u8]) -> Result<Self, FieldFault>
-        requires { length bytes.now ≡ width }
+        requires { length bytes.now ≡ WIDTH }
         ensures { result ≡ reading bytes.now };
 
-    ghost four: { (length label ≡ 4) × AllBelowBase 256 label };
+    ghost four: { (length LABEL ≡ 4) × AllBelowBase 256 LABEL };
 
-    ghost narrow: { (1 ≤ width) × (width ≤ 48) };
+    ghost narrow: { (1 ≤ WIDTH) × (WIDTH ≤ 48) };
 
-    ghost long: { (r : Self) → (length (written r) ≡ width) × AllBelowBase 256 (written r) };
+    ghost long: { (r : Self) → (length (written r) ≡ WIDTH) × AllBelowBase 256 (written r) };
 
     ghost readback: { (r : Self) → reading (written r) ≡ Ok r };
 
-    ghost writeback: { (x : List ℕ) (r : Self) → length x ≡ width → AllBelowBase 256 x → reading x ≡ Ok r → written r ≡ x };
+    ghost writeback: { (x : List ℕ) (r : Self) → length x ≡ WIDTH → AllBelowBase 256 x → reading x ≡ Ok r → written r ≡ x };
 }

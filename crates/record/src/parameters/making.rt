@@ -57,9 +57,9 @@ impl Record for ParameterSet {
 
     const WIDTH: usize = 9;
 
-    ghost label = { codes "PARA" };
+    ghost LABEL = { codes "PARA" };
 
-    ghost width = { 9 };
+    ghost WIDTH = { 9 };
 
     ghost written = { writing };
 
@@ -74,14 +74,6 @@ impl Record for ParameterSet {
     ghost readback = { λ s. read_written s };
 
     ghost writeback = { λ x s long under e. written_read x s long under e };
-
-    fn tag() -> [u8; 4] {
-        Self::LABEL
-    }
-
-    fn size() -> usize {
-        Self::WIDTH
-    }
 
     fn write(&self, out: &mut [u8]) {
         write_sixteens(out, &self.fields.wide());

@@ -89,9 +89,9 @@ impl Record for Sheet {
 
     const WIDTH: usize = 14;
 
-    ghost label = { codes "COMM" };
+    ghost LABEL = { codes "COMM" };
 
-    ghost width = { 14 };
+    ghost WIDTH = { 14 };
 
     ghost written = { writing };
 
@@ -106,14 +106,6 @@ impl Record for Sheet {
     ghost readback = { λ s. read_written s };
 
     ghost writeback = { λ x s long under e. written_read x s long under e };
-
-    fn tag() -> [u8; 4] {
-        Self::LABEL
-    }
-
-    fn size() -> usize {
-        Self::WIDTH
-    }
 
     fn write(&self, out: &mut [u8]) {
         write_sixteens(out, &<[u32; 7]>::from(self.fields));
