@@ -1,7 +1,7 @@
 ghost use Rattle.std.specs.Prelude.{◌≡◌};
 ghost use Rattle.cipher.specs.Tweaks.{number_of};
 
-// The number of a domain of the mode, by its written name. Another name has none.
+// The number of a domain of the mode, by its written name, as the mode's definitions name it. Another name has none.
 pub fn domain_number(name: &str) -> Option<u8>
     ensures { result ≡ number_of name.now }
 {

@@ -9,6 +9,7 @@ use record::kind::Record;
 
 const HEAD: usize = 16;
 
+// The mark is a byte of the page, written and compared as one.
 const EMPTY: u8 = 0;
 
 const HOLDING: u8 = 1;

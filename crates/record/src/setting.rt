@@ -8,5 +8,6 @@ pub struct ParameterFields {
     // The flow's maximum and the hot water's target in tenths of a degree.
     pub flow: u32,
     pub water: u32,
+    // A number in range or not, as C hands it over.
     pub mode: u32,
 }

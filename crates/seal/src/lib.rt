@@ -21,7 +21,8 @@ pub fn seal_record<C: TweakableCipher, R: Record>(c: &C, page: &mut [u8], slot: 
     let _ = encipher(c, page);
 }
 
-// Seals the page of an empty slot. Unsealing it under the same cipher gives nothing.
+// Seals the page of an empty slot. Unsealing it under the same cipher gives nothing. It is a function of its own for the
+// reason that `lay_empty` is.
 pub fn seal_empty<C: TweakableCipher, R: Record>(c: &C, page: &mut [u8], slot: u8)
     requires long { 64 ≤ length page.old }
     requires short { length page.old ≤ 4096 }

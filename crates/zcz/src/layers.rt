@@ -101,6 +101,7 @@ pub fn second_layer<C: TweakableCipher, D: Direction>(
 {
     let mut s = st.left;
     let mut sums = DiBlock { left: 0, right: 0 };
+    // By number, as the first layer.
     for i in 0..n {
         s = next_link(c, s, i);
         sums = second_at::<C, D>(c, m, i, st.right, s, sums);

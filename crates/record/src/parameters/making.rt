@@ -36,7 +36,8 @@ impl ParameterFields {
 }
 
 impl ParameterSet {
-    // The set of these fields, or which is the lowest wrong one.
+    // The set of these fields, or which is the lowest wrong one. `Sheet::new` reads the same, of another type: one record
+    // generic in its fields would be longer than both.
     pub fn new(fields: ParameterFields) -> Result<ParameterSet, FieldFault>
         ensures value { result ≡ making fields }
         ensures answer { answered_as (λ s. s.fields) numbers result ≡ answer fields }

@@ -23,7 +23,7 @@ impl<C: TweakableCipher> Store<C> {
         seal_record(&self.cipher, page, slot as u8, content);
     }
 
-    // Writes the page of an empty slot.
+    // Writes the page of an empty slot, by a function of its own for the reason that `lay_empty` is.
     pub(super) fn write_empty<R: Record>(&self, memory: &mut [u8], slot: usize)
         requires sized { Sized self.now.geometry memory.old }
         requires slot { slot < self.now.geometry.slots }
