@@ -1,3 +1,4 @@
 pub mod Answers
 pub mod Opens
 pub mod Made
+pub mod Ways

@@ -50,12 +50,16 @@ CalledTo selector key key' slots page Left Made a =
     ((e : Refusal) × Barred selector ((length key ≡ 16) × (length key' ≡ 16)) slots page e × Left × (a ≡ refused e))
     ⊎ ((g : Geometry) × (c : AnyCipher) × (to : AnyCipher) × Keyed selector key c × Keyed selector key' to × Shaped slots page g × Made g c to a)
 
--- a message under a cipher: what the mode gives, or refused for its length and left as it was
+-- a message under a cipher: what f makes of it, or refused for its length and left as it was
+abbrev pub Passes : (AnyCipher → List ℕ → List ℕ) → AnyCipher → List ℕ → List ℕ → Answer → Type 0
+Passes f c m m' a = (m' ≡ f c m) × (a ≡ cond (admitted (length m)) (yes 0) (no 1 0 0))
+
+-- what the mode gives
 abbrev pub Enciphers : AnyCipher → List ℕ → List ℕ → Answer → Type 0
-Enciphers c m m' a = (m' ≡ enciphered (encrypts c) m) × (a ≡ cond (admitted (length m)) (yes 0) (no 1 0 0))
+Enciphers = Passes (λ c. enciphered (encrypts c))
 
 abbrev pub Deciphers : AnyCipher → List ℕ → List ℕ → Answer → Type 0
-Deciphers c m m' a = (m' ≡ deciphered (encrypts c) (decrypts c) m) × (a ≡ cond (admitted (length m)) (yes 0) (no 1 0 0))
+Deciphers = Passes (λ c. deciphered (encrypts c) (decrypts c))
 
 -- a call was refused before it came to a cipher; or it was made with the cipher of the selector and the key
 abbrev pub CalledWith : ℕ → List ℕ → Type 0 → (AnyCipher → Answer → Type 0) → Answer → Type 0

@@ -7,6 +7,7 @@ use record::fault::FieldFault;
 use zcz::refusal::Refusal as MessageRefusal;
 
 // What a call answers: 0 where it was accepted, or the refusal's number with its values, and whether a get found a record.
+// All four are numbers since C reads them.
 #[repr(C)]
 #[derive(Clone, Copy)]
 pub struct Answer {

@@ -11,7 +11,7 @@ use store::store::Store;
 
 const KEY: usize = 16;
 
-// The cipher of a selector.
+// The cipher of a selector. It is no `TryFrom`, since neither that trait nor the names are of this crate.
 fn name_of(selector: u32) -> Option<CipherName>
     ensures { result ≡ named selector }
 {
@@ -27,9 +27,7 @@ fn name_of(selector: u32) -> Option<CipherName>
 pub fn keyed(selector: u32, key: &[u8]) -> Result<AnyCipher, Refusal>
     ensures { MatchResult result (λ c. Keyed selector key.now c) (λ e. Unkeyed selector (length key.now ≡ 16) e) }
 {
-    let Some(name) = name_of(selector) else {
-        return Err(Refusal::Cipher);
-    };
+    let name = name_of(selector).ok_or(Refusal::Cipher)?;
     if key.len() != KEY {
         return Err(Refusal::Key);
     }

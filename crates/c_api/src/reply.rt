@@ -1,4 +1,4 @@
-// Answers in numbers.
+// Answers in numbers. These are the C interface's, which docs/C.md lists.
 ghost use Rattle.std.specs.Prelude.{◌≡◌, ℕ};
 ghost use Rattle.c_api.specs.Answers as answers;
 
@@ -28,37 +28,43 @@ fn no(number: u32, slot: u32, field: u32) -> Answer
     }
 }
 
-fn of_page(fault: SlotFault) -> Answer
-    ensures { result ≡ answers.page_answer fault.slot fault.fault }
-{
-    let slot = fault.slot as u32;
-    match fault.fault {
-        PageFault::Head => no(6, slot, 0),
-        PageFault::Record(fault) => no(7, slot, fault.field as u32),
+impl From<SlotFault> for Answer {
+    ghost from_gives = { λ x y. y ≡ answers.page_answer x.slot x.fault };
+
+    fn from(fault: SlotFault) -> Answer {
+        let slot = u32::from(fault.slot);
+        match fault.fault {
+            PageFault::Head => no(6, slot, 0),
+            PageFault::Record(fault) => no(7, slot, u32::from(fault.field)),
+        }
     }
 }
 
-pub fn of_store(refusal: StoreRefusal) -> Answer
-    ensures { result ≡ answers.store_answer refusal }
-{
-    match refusal {
-        StoreRefusal::Memory => no(3, 0, 0),
-        StoreRefusal::Slot => no(4, 0, 0),
-        StoreRefusal::Buffer => no(5, 0, 0),
-        StoreRefusal::Page(fault) => of_page(fault),
+impl From<StoreRefusal> for Answer {
+    ghost from_gives = { λ x y. y ≡ answers.store_answer x };
+
+    fn from(refusal: StoreRefusal) -> Answer {
+        match refusal {
+            StoreRefusal::Memory => no(3, 0, 0),
+            StoreRefusal::Slot => no(4, 0, 0),
+            StoreRefusal::Buffer => no(5, 0, 0),
+            StoreRefusal::Page(fault) => Answer::from(fault),
+        }
     }
 }
 
-pub fn refused(refusal: Refusal) -> Answer
-    ensures { result ≡ answers.refused refusal }
-{
-    match refusal {
-        Refusal::Cipher => no(100, 0, 0),
-        Refusal::Key => no(101, 0, 0),
-        Refusal::Message(_) => no(1, 0, 0),
-        Refusal::Geometry(_) => no(2, 0, 0),
-        Refusal::Record(fault) => no(8, 0, fault.field as u32),
-        Refusal::Store(refusal) => of_store(refusal),
+impl From<Refusal> for Answer {
+    ghost from_gives = { λ x y. y ≡ answers.refused x };
+
+    fn from(refusal: Refusal) -> Answer {
+        match refusal {
+            Refusal::Cipher => no(100, 0, 0),
+            Refusal::Key => no(101, 0, 0),
+            Refusal::Message(_) => no(1, 0, 0),
+            Refusal::Geometry(_) => no(2, 0, 0),
+            Refusal::Record(fault) => no(8, 0, u32::from(fault.field)),
+            Refusal::Store(refusal) => Answer::from(refusal),
+        }
     }
 }
 
@@ -67,6 +73,6 @@ pub fn done(res: Result<(), StoreRefusal>) -> Answer
 {
     match res {
         Ok(()) => yes(0),
-        Err(refusal) => of_store(refusal),
+        Err(refusal) => Answer::from(refusal),
     }
 }

@@ -1,19 +1,13 @@
 // The calls on stores of commissioning sheets.
-ghost use Rattle.std.specs.Prelude.{◌≡◌, Ok};
+ghost use Rattle.std.specs.Prelude.{◌≡◌};
 ghost use Rattle.record.specs.Sheets.{making};
 ghost use Rattle.record.specs.contracts.sheet.making.SheetRecord.TheImpl as kind;
-ghost use Rattle.c_api.specs.Answers.{told, found_or};
 ghost use Rattle.c_api.specs.Made.{Forms, Puts, Clears, Gets, Changes, Called, CalledTo};
 
 use crate::answer::Answer;
-use crate::open::{opened, opened_to};
-use crate::reply::{of_store, refused, yes};
-use crate::stores::{change, clear, form, put};
-use calls::refusal::Refusal as StoreRefusal;
-use ciphers::any::AnyCipher;
+use crate::stores::{change, clear, form, get, put};
 use record::fields::SheetFields;
 use record::sheet::Sheet;
-use store::store::Store;
 
 #[unsafe(no_mangle)]
 pub extern "C" fn dikhelwa_sheet_form(
@@ -25,10 +19,7 @@ pub extern "C" fn dikhelwa_sheet_form(
 ) -> Answer
     ensures { Called cipher key.now slots page_length (memory.new ≡ memory.old) (λ g c a. Forms kind.ghosts g c memory.old memory.new a) result }
 {
-    match opened(cipher, key, slots, page_length) {
-        Ok(store) => form::<Sheet>(&store, memory),
-        Err(refusal) => refused(refusal),
-    }
+    form::<Sheet>(cipher, key, slots, page_length, memory)
 }
 
 #[unsafe(no_mangle)]
@@ -43,10 +34,7 @@ pub extern "C" fn dikhelwa_sheet_put(
 ) -> Answer
     ensures { Called cipher key.now slots page_length (memory.new ≡ memory.old) (λ g c a. Puts kind.ghosts g c memory.old slot (making sheet.now) memory.new a) result }
 {
-    match opened(cipher, key, slots, page_length) {
-        Ok(store) => put(&store, memory, slot, Sheet::new(*sheet)),
-        Err(refusal) => refused(refusal),
-    }
+    put::<Sheet>(cipher, key, slots, page_length, memory, slot, sheet)
 }
 
 #[unsafe(no_mangle)]
@@ -60,34 +48,7 @@ pub extern "C" fn dikhelwa_sheet_clear(
 ) -> Answer
     ensures { Called cipher key.now slots page_length (memory.new ≡ memory.old) (λ g c a. Clears kind.ghosts g c memory.old slot memory.new a) result }
 {
-    match opened(cipher, key, slots, page_length) {
-        Ok(store) => clear::<Sheet>(&store, memory, slot),
-        Err(refusal) => refused(refusal),
-    }
-}
-
-// What was found, if anything: its fields go to `sheet`.
-fn tell_found(found: Option<Sheet>, sheet: &mut SheetFields) -> Answer
-    ensures fields { sheet.new ≡ found_or (λ s. s.fields) (Ok found) sheet.old }
-    ensures answer { result ≡ told (Ok found) }
-{
-    match found {
-        Some(found) => {
-            *sheet = found.fields();
-            yes(1)
-        }
-        None => yes(0),
-    }
-}
-
-fn tell(res: Result<Option<Sheet>, StoreRefusal>, sheet: &mut SheetFields) -> Answer
-    ensures fields { sheet.new ≡ found_or (λ s. s.fields) res sheet.old }
-    ensures answer { result ≡ told res }
-{
-    match res {
-        Ok(found) => tell_found(found, sheet),
-        Err(refusal) => of_store(refusal),
-    }
+    clear::<Sheet>(cipher, key, slots, page_length, memory, slot)
 }
 
 #[unsafe(no_mangle)]
@@ -103,10 +64,16 @@ pub extern "C" fn dikhelwa_sheet_get(
 ) -> Answer
     ensures { Called cipher key.now slots page_length ((working.new ≡ working.old) × (sheet.new ≡ sheet.old)) (λ g c a. Gets kind.ghosts (λ s. s.fields) g c memory.now slot working.old sheet.old working.new sheet.new a) result }
 {
-    match opened(cipher, key, slots, page_length) {
-        Ok(store) => tell(store.get(memory, slot, working), sheet),
-        Err(refusal) => refused(refusal),
-    }
+    get::<Sheet>(
+        cipher,
+        key,
+        slots,
+        page_length,
+        memory,
+        slot,
+        working,
+        sheet,
+    )
 }
 
 #[unsafe(no_mangle)]
@@ -121,8 +88,5 @@ pub extern "C" fn dikhelwa_sheet_change(
 ) -> Answer
     ensures { CalledTo cipher key.now new_key.now slots page_length ((memory.new ≡ memory.old) × (working.new ≡ working.old)) (λ g c to a. Changes kind.ghosts g c memory.old to working.old memory.new working.new a) result }
 {
-    match opened_to(cipher, key, new_key, slots, page_length) {
-        Ok(rekeying) => change::<Sheet>(rekeying, memory, working),
-        Err(refusal) => refused(refusal),
-    }
+    change::<Sheet>(cipher, key, slots, page_length, memory, new_key, working)
 }

@@ -15,18 +15,16 @@ const LENGTHS: [usize; 13] = [
 
 // Byte i of the message is 1 + 7 i + 13 (i / 256), modulo 256.
 fn fill(m: &mut [u8]) {
-    for i in 0..m.len() {
-        m[i] = ((i % 256 * 7 + i / 256 % 256 * 13 + 1) % 256) as u8;
+    for (i, b) in m.iter_mut().enumerate() {
+        *b = ((i % 256 * 7 + i / 256 % 256 * 13 + 1) % 256) as u8;
     }
 }
 
 // A sum that tells byte strings apart: FNV-1a of 64 bits.
 fn digest(m: &[u8]) -> u64 {
-    let mut h: u64 = 0xcbf2_9ce4_8422_2325;
-    for b in m {
-        h = (h ^ u64::from(*b)).wrapping_mul(0x100_0000_01b3);
-    }
-    h
+    m.iter().fold(0xcbf2_9ce4_8422_2325, |h: u64, b| {
+        (h ^ u64::from(*b)).wrapping_mul(0x100_0000_01b3)
+    })
 }
 
 fn print_first(rt: &HostRuntime, m: &[u8]) -> io::Result<()> {
@@ -56,16 +54,11 @@ fn run(rt: &HostRuntime, m: &mut [u8]) -> io::Result<()> {
     )
 }
 
-fn run_first(rt: &HostRuntime, m: &mut [u8], n: usize) -> io::Result<()> {
-    if n <= m.len() {
-        run(rt, &mut m[0..n])?;
-    }
-    Ok(())
-}
-
 fn run_all(rt: &HostRuntime, m: &mut [u8]) -> io::Result<()> {
     for n in LENGTHS {
-        run_first(rt, m, n)?;
+        if let Some(first) = m.get_mut(..n) {
+            run(rt, first)?;
+        }
     }
     Ok(())
 }

@@ -10,9 +10,7 @@ use text::numerals::seven;
 pub fn sheet_of(line: &[u8]) -> Result<Sheet, Refusal>
     ensures { Taken line.now result }
 {
-    let Some(numbers) = seven(line) else {
-        return Err(Refusal::Line);
-    };
+    let numbers = seven(line).ok_or(Refusal::Line)?;
     let sheet = Sheet::new(SheetFields::of(numbers))?;
     Ok(sheet)
 }

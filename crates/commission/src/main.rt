@@ -83,32 +83,20 @@ fn report(rt: &HostRuntime, sheet: &Sheet, geometry: Geometry) -> io::Result<()>
     print_kept(rt, sheet, kept)
 }
 
-fn refuse(rt: &HostRuntime, refusal: Refusal) -> io::Result<()> {
-    match refusal {
-        Refusal::Line => println!(rt;
-            "refused 9: the line is not seven numbers with commas between them"
-        ),
-        Refusal::Field(fault) => {
-            let field = fault.field;
-            println!(rt; "refused 8: number {field} is out of its range or breaks its rule")
-        }
-    }
-}
-
 fn commission(rt: &HostRuntime, line: &[u8]) -> io::Result<()> {
     match sheet_of(line) {
         Ok(sheet) => match Geometry::new(SLOTS, PAGE) {
             Ok(geometry) => report(rt, &sheet, geometry),
             Err(_) => println!(rt; "THERE IS NO SUCH GEOMETRY"),
         },
-        Err(refusal) => refuse(rt, refusal),
+        Err(refusal) => println!(rt; "refused {refusal}"),
     }
 }
 
 fn main(rt: HostRuntime) -> io::Result<()> {
-    for line in BufReader::new(rt.alloc(), rt.stdin())?.split(rt.alloc(), b'\n') {
-        let line = line?;
-        return commission(&rt, line.as_slice());
+    let mut lines = BufReader::new(rt.alloc(), rt.stdin())?.split(rt.alloc(), b'\n');
+    match lines.next() {
+        Some(line) => commission(&rt, line?.as_slice()),
+        None => println!(rt; "refused {}", Refusal::Line),
     }
-    refuse(&rt, Refusal::Line)
 }

@@ -20,28 +20,17 @@ pub const WORKING: usize = 4112;
 
 // Whether the first bytes of a buffer, as many as a page has, are zero, and the others as they were.
 pub fn is_wiped(working: &[u8], page: usize) -> bool {
-    for (i, b) in working.iter().enumerate() {
-        if *b != if i < page { 0 } else { MARK } {
-            return false;
-        }
-    }
-    true
+    working.iter().take(page).all(|b| *b == 0) && working.iter().skip(page).all(|b| *b == MARK)
 }
 
 // Whether a call was refused, and so.
 pub fn is_refused<T: Drop>(answer: Result<T, Refusal>, wanted: Refusal) -> bool {
-    match answer {
-        Ok(_) => false,
-        Err(refusal) => refusal == wanted,
-    }
+    answer.err() == Some(wanted)
 }
 
 // Whether a refusal is that of the slot's page.
 pub fn names_slot(refusal: Refusal, slot: usize) -> bool {
-    match refusal {
-        Refusal::Page(fault) => usize::from(fault.slot) == slot,
-        _ => false,
-    }
+    matches!(refusal, Refusal::Page(fault) if usize::from(fault.slot) == slot)
 }
 
 // Whether a slot was read, and holds this.
@@ -61,11 +50,9 @@ pub struct Board<C> {
 
 impl<C: TweakableCipher + Keyed + Drop> Board<C> {
     pub fn new(key: Block, slots: usize, page: usize) -> Result<Board<C>, Wrong> {
-        let Ok(geometry) = Geometry::new(slots, page) else {
-            return Err(Wrong {
-                step: "making a geometry",
-            });
-        };
+        let geometry = Geometry::new(slots, page).map_err(|_| Wrong {
+            step: "making a geometry",
+        })?;
         Ok(Board {
             store: Store::new(C::keyed(key), geometry),
             geometry,
@@ -84,7 +71,7 @@ impl<C: TweakableCipher + Keyed + Drop> Board<C> {
         check(self.store.clear::<R>(memory, slot).is_ok(), "clear")
     }
 
-    // What `get` answers. It leaves the buffer's first page zero and the rest as it was.
+    // What `get` answers, which is what the caller checks; the outer error is a check that failed here. It leaves the buffer's first page zero and the rest as it was.
     pub fn get<R: Record + Drop>(
         &self,
         memory: &[u8],

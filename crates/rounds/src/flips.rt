@@ -12,8 +12,8 @@ use record::sheet::Sheet;
 
 // Turns one bit of a byte, in turn the lowest to the highest.
 fn flip(memory: &mut [u8], place: usize) {
-    if place < memory.len() {
-        memory[place] ^= 1 << (place % 8);
+    if let Some(byte) = memory.get_mut(place) {
+        *byte ^= 1 << (place % 8);
     }
 }
 
@@ -60,11 +60,9 @@ fn flips_at<C: TweakableCipher + Keyed + Drop, R: Record + Sample + Copy, const 
     let mut memory = [0u8; SIZE];
     let mut board = Board::<C>::new(OLD, slots, page)?;
     board.fill(&mut memory, &pair)?;
-    for place in 0..SIZE {
-        let slot = place.checked_div(page).unwrap_or(slots);
-        if place.checked_rem(every) == Some(0) {
-            flipped(&mut board, &memory, &pair, slot, place)?;
-        }
+    for place in (0..SIZE).step_by(every.max(1)) {
+        let slot = place / board.geometry.page();
+        flipped(&mut board, &memory, &pair, slot, place)?;
     }
     board.holds_others(&memory, &pair, None, "get after all flips")
 }

@@ -28,9 +28,7 @@ pub fn first_refusal<C: TweakableCipher + Keyed + Drop, R: Record + Drop>(
     for slot in 0..board.geometry.slots() {
         if let Err(refusal) = board.get::<R>(memory, slot)? {
             check(names_slot(refusal, slot), "get of any bytes")?;
-            if first.is_none() {
-                first = Some(refusal);
-            }
+            first = first.or(Some(refusal));
         }
     }
     Ok(first)

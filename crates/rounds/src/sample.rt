@@ -32,12 +32,9 @@ pub trait Sample: Sized {
 }
 
 pub fn samples<R: Sample>() -> Result<Pair<R>, Wrong> {
-    match R::pair() {
-        Ok(pair) => Ok(pair),
-        Err(_) => Err(Wrong {
-            step: "making the records",
-        }),
-    }
+    R::pair().map_err(|_| Wrong {
+        step: "making the records",
+    })
 }
 
 impl Sample for Sheet {

@@ -9,10 +9,10 @@ use record::kind::Record;
 use record::sheet::Sheet;
 
 fn makes(slots: usize, page: usize, step: &'static str) -> Step {
-    match Geometry::new(slots, page) {
-        Ok(geometry) => check(geometry.slots() == slots && geometry.page() == page, step),
-        Err(_) => check(false, step),
-    }
+    check(
+        Geometry::new(slots, page).is_ok_and(|g| g.slots() == slots && g.page() == page),
+        step,
+    )
 }
 
 fn refuses(slots: usize, page: usize, step: &'static str) -> Step {

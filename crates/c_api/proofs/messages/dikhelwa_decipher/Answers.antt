@@ -1,8 +1,7 @@
-use Rattle.std.proofs.Common.{length, ◌∙◌, inr}
-use Rattle.mode.specs.Permutes.{admitted}
-use Rattle.c_api.proofs.Sent.{sent_is}
+use Rattle.std.proofs.Common.{rules}
+use Rattle.ciphers.specs.Ciphers.{encrypts, decrypts}
+use Rattle.mode.specs.Permutes.{deciphered}
 use Rattle.c_api.proofs.messages.dikhelwa_decipher.Goals as goal
 
-pub returns-in-Ok : goal.returns-in-Ok
-returns-in-Ok c =
-    inr (c.in-Ok.cipher, c.in-Ok.ensures, (c.decipher.ensures.wrote, c.tell.ensures ∙ sent_is (admitted (length c.args.message.now)) c.decipher.result c.decipher.ensures.answer))
+pub returns : goal.returns
+returns c = c.on_message.ensures (λ c. deciphered (encrypts c) (decrypts c)) (search rules)

@@ -1,8 +1,0 @@
-use Rattle.std.proofs.Common.{inr}
-use Rattle.c_api.proofs.parameters.dikhelwa_parameters_change.Goals as goal
-
-pub returns-in-Ok : goal.returns-in-Ok
-returns-in-Ok c =
-    let r = c.in-Ok.rekeying in
-    let from = c.in-Ok.ensures in
-    inr (r.store.geometry, r.store.cipher, r.to, from.0, from.1, from.2, c.change.ensures)

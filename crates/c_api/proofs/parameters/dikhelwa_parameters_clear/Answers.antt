@@ -1,5 +1,0 @@
-use Rattle.std.proofs.Common.{inr}
-use Rattle.c_api.proofs.parameters.dikhelwa_parameters_clear.Goals as goal
-
-pub returns-in-Ok : goal.returns-in-Ok
-returns-in-Ok c = let s = c.in-Ok.store in let from = c.in-Ok.ensures in inr (s.geometry, s.cipher, from.0, from.1, c.clear.ensures)

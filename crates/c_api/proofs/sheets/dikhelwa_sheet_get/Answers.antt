@@ -1,8 +1,0 @@
-use Rattle.std.proofs.Common.{inr}
-use Rattle.c_api.proofs.sheets.dikhelwa_sheet_get.Goals as goal
-
-pub returns-in-Ok : goal.returns-in-Ok
-returns-in-Ok c =
-    let s = c.in-Ok.store in
-    let from = c.in-Ok.ensures in
-    inr (s.geometry, s.cipher, from.0, from.1, (c.get.result, c.get.ensures, c.tell.ensures.fields, c.tell.ensures.answer))
