@@ -24,6 +24,16 @@ listed-push [] n = refl
 listed-push (x ∷ []) n = sym (append_assoc (decimal x) (44 ∷ []) (decimal n))
 listed-push (x ∷ (y ∷ xs)) n = ap (λ t. decimal x ++ (44 ∷ t)) (listed-push (y ∷ xs) n) ∙ sym (append_assoc (decimal x) (44 ∷ heads (y ∷ xs)) (decimal n))
 
+heads_listed : (x : ℕ) (xs : List ℕ) → heads (x ∷ xs) ≡ listed (x ∷ xs) ++ (44 ∷ [])
+unfolding heads listed
+heads_listed x [] = refl
+heads_listed x (y ∷ xs) = ap (λ t. decimal x ++ (44 ∷ t)) (heads_listed y xs) ∙ sym (append_assoc (decimal x) (44 ∷ listed (y ∷ xs)) (44 ∷ []))
+
+-- one more number after some
+pub listed_push_more : (xs : List ℕ) (n : ℕ) → 0 < length xs → listed (xs ++ (n ∷ [])) ≡ listed xs ++ (44 ∷ decimal n)
+listed_push_more [] n h = absurd (omega arith)
+listed_push_more (x ∷ xs) n h = listed-push (x ∷ xs) n ∙ ap (λ t. t ++ decimal n) (heads_listed x xs) ∙ append_assoc (listed (x ∷ xs)) (44 ∷ []) (decimal n)
+
 pub listed_more : (ns : List ℕ) (i : ℕ) → i + 1 < length ns → listed (drop i ns) ≡ decimal (get_or ns i 0) ++ (44 ∷ listed (drop (i + 1) ns))
 unfolding listed
 listed_more [] i h = absurd (omega arith)
