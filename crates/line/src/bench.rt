@@ -75,7 +75,13 @@ impl Bench {
             return say(out, Err(Refusal::Line));
         };
         let end = store.geometry().memory().min(self.memory.len());
-        serve(store, &mut self.memory[0..end], &mut self.working, command, out);
+        serve(
+            store,
+            &mut self.memory[0..end],
+            &mut self.working,
+            command,
+            out,
+        );
     }
 
     // A command, whatever is formed.
