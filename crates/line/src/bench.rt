@@ -75,13 +75,8 @@ impl Bench {
             return say(out, Err(Refusal::Line));
         };
         let end = store.geometry().memory().min(self.memory.len());
-        serve(
-            store,
-            &mut self.memory[0..end],
-            &mut self.working,
-            command,
-            out,
-        );
+        let memory = &mut self.memory[0..end];
+        serve(store, memory, &mut self.working, command, out);
     }
 
     // A command, whatever is formed.
