@@ -10,7 +10,6 @@ ghost use Rattle.session.specs.States.{start};
 ghost use Rattle.session.specs.Lines.{Asks, Acts};
 ghost use Rattle.session.specs.History.{Law};
 ghost use Rattle.line.specs.Says.{Says};
-ghost use Rattle.line.specs.Benches.{state_of};
 
 use crate::say::say;
 use crate::serve::serve;
@@ -23,6 +22,7 @@ use record::sheet::Sheet;
 use session::law::lines_law;
 use session::refusal::Refusal;
 use session::reply::Reply;
+use std::marker::Model;
 use store::store::Store;
 use writer::write::Text;
 
@@ -41,10 +41,21 @@ fn asked(line: Option<&[u8]>) -> Option<Command>
     parse(line?)
 }
 
+// Clauses see what it holds, in the words of the session.
+impl Model for Bench {
+    ghost use Rattle.session.specs.States.{State};
+
+    ghost Value = { State };
+
+    ghost use Rattle.line.specs.Benches.{state_of};
+
+    ghost view = { state_of };
+}
+
 impl Bench {
     // Nothing is formed, and all bytes are zero.
     pub fn new() -> Bench
-        ensures { state_of result ≡ start }
+        ensures { result ≡ start }
     {
         Bench {
             store: None,
@@ -56,7 +67,7 @@ impl Bench {
     // Forms a new store in place of the former, which stays where the new one is refused. The store has the first bytes of
     // the memory, as many as its geometry says.
     fn form(&mut self, name: CipherName, slots: u32, page: u32) -> Result<Reply, Refusal>
-        ensures { Does (state_of self.old) (Form name slots page) (state_of self.new) (replied result) }
+        ensures { Does self.old (Form name slots page) self.new (replied result) }
     {
         let geometry = Geometry::new(slots as usize, page as usize)?;
         let store = Store::new(AnyCipher::new(name, 0), geometry);
@@ -69,7 +80,7 @@ impl Bench {
     // A command that wants a formed store.
     fn on_store(&mut self, command: Command, out: &mut Text)
         requires { word_of command ≢ word.Form }
-        ensures { Says (λ a. On (state_of self.old) (state_of self.old).formed command (state_of self.new) a) out.new }
+        ensures { Says (λ a. On self.old self.old.formed command self.new a) out.new }
     {
         let Some(store) = &mut self.store else {
             return say(out, Err(Refusal::Line));
@@ -81,7 +92,7 @@ impl Bench {
 
     // A command, whatever is formed.
     fn act(&mut self, command: Command, out: &mut Text)
-        ensures { Says (λ a. Does (state_of self.old) command (state_of self.new) a) out.new }
+        ensures { Says (λ a. Does self.old command self.new a) out.new }
     {
         match command {
             Command::Form(name, slots, page) => say(out, self.form(name, slots, page)),
@@ -91,7 +102,7 @@ impl Bench {
 
     // Answers a line: writes the text of its answer, in place of what the text was.
     pub fn answer(&mut self, line: Option<&[u8]>, out: &mut Text)
-        ensures says { (o : Option commands.Command) × Asks (option_map (λ x. x.now) line.entry) o × Says (λ a. Acts (state_of self.old) o (state_of self.new) a) out.new }
+        ensures says { (o : Option commands.Command) × Asks (option_map (λ x. x.now) line.entry) o × Says (λ a. Acts self.old o self.new a) out.new }
         ensures law { Law }
     {
         lines_law();

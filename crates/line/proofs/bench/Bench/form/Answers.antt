@@ -11,9 +11,9 @@ returns-in_err-geometry c =
 pub returns-in_err-form : goal.returns-in_err-form
 returns-in_err-form c =
     let p = err_from_is_err_and c.from_residual-in_err-form.result c.from_residual-in_err-form.ensures.1 in
-    let b = c.args.self.now in
+    let b = c.self.inside in
     let long : length b.memory ≡ 32768 = search rules in
-    rw (p.1, p.2)
+    rw (p.1, p.2, ← c.self.view_is)
     (formed b.memory c.form.new.memory b.working c.memory.result c.min-end.result c.new-store.result c.in_ok-geometry.geometry
     c.new-store.ensures.1 c.memory.ensures (c.min-end.ensures ∙ ap (min c.memory.result) (sym long)) c.form.auto.memory
     b.store c.new-2.result c.args.name c.args.slots c.args.page (Err c.in_err-form.field-0.0)
@@ -21,9 +21,10 @@ returns-in_err-form c =
 
 pub returns : goal.returns
 returns c =
-    let b = c.args.self.now in
+    let b = c.self.inside in
     let long : length b.memory ≡ 32768 = search rules in
-    formed b.memory c.form.new.memory b.working c.memory.result c.min-end.result c.new-store.result c.in_ok-geometry.geometry
+    rw (← c.self.view_is)
+    (formed b.memory c.form.new.memory b.working c.memory.result c.min-end.result c.new-store.result c.in_ok-geometry.geometry
     c.new-store.ensures.1 c.memory.ensures (c.min-end.ensures ∙ ap (min c.memory.result) (sym long)) c.form.auto.memory
     b.store c.new-2.result c.args.name c.args.slots c.args.page (Ok tt)
-    c.new-store.ensures.0 c.new-2.ensures c.in_ok-geometry.ensures c.in_ok-form.ensures.does
+    c.new-store.ensures.0 c.new-2.ensures c.in_ok-geometry.ensures c.in_ok-form.ensures.does)
