@@ -2,7 +2,7 @@
 use Rattle.std.proofs.Common.{◌≡◌, ℕ, zero, suc, ◌+◌, ◌<◌, ◌≤◌, List, [], ◌∷◌, ◌++◌, length, get_or, take, drop, set, decimal, Some, None, Option, sym, refl, ap, ◌∙◌, subst, ⊎_elim, append_assoc, add-one, arith}
 use Rattle.std.specs.List.{AllByRecursion}
 use Rattle.std.proofs.ByRecursion.{All-push, All-get_or}
-use Rattle.std.proofs.lemmas.List.{take_more_set, take_all, length-set}
+use Rattle.std.proofs.lemmas.List.{take_more_set, length-set}
 use Rattle.std.proofs.lemmas.Bool.{cases_lt}
 use Rattle.text.specs.Texts.{Small, Free, Cut, listed}
 use Rattle.text.proofs.Cuts.{same_cut, no_cut}
@@ -82,19 +82,15 @@ pub reading_none : (bs out : List ℕ) → 0 < length out → Reading bs out 0 (
 unfolding heads
 reading_none bs out some = (tt, refl, λ ns w. (some, w.2))
 
-module _ (bs out : List ℕ) (i : ℕ) (l : i < length out) where
-  pub spent : Reading bs out i None → (ns : List ℕ) → Writes bs out ns → ⊥
-  spent h ns w = omega (arith, h.2 ns w)
+module _ (bs out : List ℕ) (i : ℕ) (l : i < length out) (rest piece : List ℕ) (more : Option (List ℕ)) (h : Reading bs out i (Some rest)) (free : Free piece) (cut : Cut rest piece more) where
+  next : (ns : List ℕ) → Writes bs out ns → Shows ns i piece more
+  next ns w = shows ns piece i more (omega (arith, w.0)) (All-get_or Small ns i 0 (omega (arith, w.0)) w.1) free (subst (λ t. Cut t piece more) ((h.2 ns w).1) cut)
 
-  module _ (rest piece : List ℕ) (more : Option (List ℕ)) (h : Reading bs out i (Some rest)) (free : Free piece) (cut : Cut rest piece more) where
-    next : (ns : List ℕ) → Writes bs out ns → Shows ns i piece more
-    next ns w = shows ns piece i more (omega (arith, w.0)) (All-get_or Small ns i 0 (omega (arith, w.0)) w.1) free (subst (λ t. Cut t piece more) ((h.2 ns w).1) cut)
+  is : (ns : List ℕ) → Writes bs out ns → piece ≡ decimal (get_or ns i 0)
+  is ns w = elim more as (λ m. Shows ns i piece m → piece ≡ decimal (get_or ns i 0)) [ None ↦ λ s. s.0 | Some m ↦ λ s. s.0 ] (next ns w)
 
-    is : (ns : List ℕ) → Writes bs out ns → piece ≡ decimal (get_or ns i 0)
-    is ns w = elim more as (λ m. Shows ns i piece m → piece ≡ decimal (get_or ns i 0)) [ None ↦ λ s. s.0 | Some m ↦ λ s. s.0 ] (next ns w)
-
-    pub unread : ((n : ℕ) → Small n → piece ≡ decimal n → ⊥) → (ns : List ℕ) → Writes bs out ns → ⊥
-    unread none ns w = none (get_or ns i 0) (All-get_or Small ns i 0 (omega (arith, w.0)) w.1) (is ns w)
+  pub unread : ((n : ℕ) → Small n → piece ≡ decimal n → ⊥) → (ns : List ℕ) → Writes bs out ns → ⊥
+  unread none ns w = none (get_or ns i 0) (All-get_or Small ns i 0 (omega (arith, w.0)) w.1) (is ns w)
 
 pub reading_more : (bs out rest piece : List ℕ) (i n : ℕ) (more : Option (List ℕ)) → i < length out → Reading bs out i (Some rest) → Free piece → Cut rest piece more → Small n → piece ≡ decimal n → Reading bs (set out i n) (i + 1) more
 reading_more bs out rest piece i n more l h free cut small e =
@@ -116,12 +112,6 @@ reading_more bs out rest piece i n more l h free cut small e =
           ∙ ap (λ x. x ++ m) (sym (heads-push (take i out) n) ∙ ap heads (sym t)),
       λ ns w. (omega (arith, (shown ns w).1, w.0), (shown ns w).2),
     )
-
-pub reading_all : (bs out : List ℕ) (i : ℕ) → i ≡ length out → Reading bs out i None → AllByRecursion Small out × (bs ≡ listed out)
-reading_all bs out i e h = let all = take_all i out (omega arith) in (rw all at h.0, rw all at h.1)
-
-pub reading_over : (bs out rest : List ℕ) (i : ℕ) → i ≡ length out → Reading bs out i (Some rest) → (ns : List ℕ) → Writes bs out ns → ⊥
-reading_over bs out rest i e h ns w = omega (arith, (h.2 ns w).0)
 
 -- equally many numbers with one text are the same numbers
 pub listed_same : (xs ys : List ℕ) → length xs ≡ length ys → AllByRecursion Small xs → AllByRecursion Small ys → listed xs ≡ listed ys → xs ≡ ys

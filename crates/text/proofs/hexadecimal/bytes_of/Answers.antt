@@ -1,7 +1,6 @@
 use Rattle.std.proofs.Common.{◌≡◌, ◌+◌, ◌*◌, ◌/◌, ◌%◌, ◌<◌, length, get_or, sym, ap, ◌∙◌, arith}
 use Rattle.std.proofs.ByRecursion.{All-get_or}
-use Rattle.std.proofs.lemmas.List.{take_all, length-set, length-replicate}
-use Rattle.text.specs.Texts.{hex}
+use Rattle.std.proofs.lemmas.List.{length-set, length-replicate}
 use Rattle.text.proofs.Hexes.{length-hex, hex_none, hex_high, hex_low, unhexing_more}
 use Rattle.text.proofs.hexadecimal.bytes_of.Goals as goal
 
@@ -27,9 +26,3 @@ loop-i-preserved g c = (
   unhexing_more c.args.text.now c.loop-i.b-items c.loop-i.i c.in_ok-high.high c.in_ok-low.low (omega arith) (omega arith)
       c.in_ok-high.ensures.0 c.in_ok-low.ensures.0 c.in_ok-high.ensures.1 c.in_ok-low.ensures.1 c.loop-i.invariant.1,
 )
-
-pub returns : goal.returns
-returns g c =
-    let out = take_all c.loop-i.i c.loop-i.b-items (omega arith) in
-    let text = take_all (2 * c.loop-i.i) c.args.text.now (omega arith) in
-    ((c.loop-i.invariant.0, rw out at c.loop-i.invariant.1.0), sym text ∙ c.loop-i.invariant.1.1 ∙ ap hex out)
