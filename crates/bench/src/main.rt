@@ -1,84 +1,77 @@
 #![tactic(auto)]
 // The bench program: each line of the input is answered by a line of the output, as soon as it has come.
-ghost use Rattle.std.specs.Prelude.{◌≤◌, length, IfSome, IfOk};
-
-use line::bench::{ANSWER, Bench};
+use line::bench::Bench;
 use line::buffer::LineBuffer;
 use std::io;
-use std::io::{BufWriter, ErrorKind, Read, Write};
+use std::io::{BufWriter, ErrorKind, Write};
 use std::process::ExitCode;
+use writer::write::Text;
 
-// Answers the line that was taken.
-fn respond<W: Write>(bench: &mut Bench, line: &LineBuffer, output: &mut W) -> io::Result<()> {
-    let mut out = [0u8; ANSWER];
-    let n = bench.answer(line.line(), &mut out);
-    output.write_all(&out[0..n])?;
-    output.write_all(b"\n")
+// What answers the lines: their bytes are written to it, and it writes the answers to the output.
+#[derive(Drop)]
+struct Responder<W: Write + Drop> {
+    bench: Bench,
+    line: LineBuffer,
+    text: Text,
+    output: W,
 }
 
-// Takes some bytes of the input, and answers each line that ends in them.
-fn take<W: Write>(
-    bench: &mut Bench,
-    line: &mut LineBuffer,
-    bytes: &[u8],
-    output: &mut W,
-) -> io::Result<()> {
-    for b in bytes {
-        if *b == b'\n' {
-            respond(bench, line, output)?;
-            line.clear();
-        } else {
-            line.push(*b);
+impl<W: Write + Drop> Responder<W> {
+    fn new(output: W) -> Responder<W> {
+        Responder {
+            bench: Bench::new(),
+            line: LineBuffer::new(),
+            text: Text::new(),
+            output,
         }
     }
-    output.flush()
+
+    // Answers the line that was taken, and begins the next.
+    fn respond(&mut self) -> io::Result<()> {
+        self.bench.answer(self.line.line(), &mut self.text);
+        self.line.clear();
+        self.output.write_all(self.text.as_bytes())?;
+        self.output.write_all(b"\n")
+    }
+
+    // Answers a last line that has no line feed behind it.
+    fn finish(&mut self) -> io::Result<()> {
+        if !self.line.is_empty() {
+            self.respond()?;
+        }
+        self.output.flush()
+    }
 }
 
-// The next bytes of the input, as many as are there; none at its end.
-fn next<R: Read>(input: &mut R, part: &mut [u8]) -> io::Result<Option<usize>>
-    ensures { IfOk result (λ o. IfSome o (λ n. n ≤ length part.old)) }
-{
-    match input.read(part) {
-        Ok(0) => Ok(None),
-        Ok(n) => Ok(Some(n)),
-        Err(e) => {
-            if e.kind() == ErrorKind::Interrupted {
-                Ok(Some(0))
+impl<W: Write + Drop> Write for Responder<W> {
+    fn write(&mut self, bytes: &[u8]) -> io::Result<usize> {
+        for b in bytes {
+            if *b == b'\n' {
+                self.respond()?;
             } else {
-                Err(e)
+                self.line.push(*b);
             }
         }
+        self.output.flush()?;
+        Ok(bytes.len())
+    }
+
+    fn flush(&mut self) -> io::Result<()> {
+        self.output.flush()
     }
 }
 
 fn run(rt: &HostRuntime) -> io::Result<()> {
-    let mut input = rt.stdin();
-    let mut output = BufWriter::new(rt.alloc(), rt.stdout())?;
-    let mut bench = Bench::new();
-    let mut line = LineBuffer::new();
-    let mut part = [0u8; 4096];
-    for _ in 0..u64::MAX {
-        let Some(n) = next(&mut input, &mut part)? else {
-            break;
-        };
-        take(&mut bench, &mut line, &part[0..n], &mut output)?;
-    }
-    if !line.is_empty() {
-        respond(&mut bench, &line, &mut output)?;
-    }
-    output.flush()
+    let mut responder = Responder::new(BufWriter::new(rt.alloc(), rt.stdout())?);
+    io::copy(&mut rt.stdin(), &mut responder)?;
+    responder.finish()
 }
 
 // A reader who closes the pipe has seen enough. Another failure ends the program with status 1, and with no word.
 fn main(rt: HostRuntime) -> ExitCode {
     match run(&rt) {
-        Err(e) => {
-            if e.kind() == ErrorKind::BrokenPipe {
-                ExitCode::SUCCESS
-            } else {
-                ExitCode::FAILURE
-            }
-        }
         Ok(()) => ExitCode::SUCCESS,
+        Err(e) if e.kind() == ErrorKind::BrokenPipe => ExitCode::SUCCESS,
+        Err(_) => ExitCode::FAILURE,
     }
 }

@@ -43,12 +43,8 @@ fn word(bytes: &[u8]) -> Option<Word>
 fn key(bytes: &[u8]) -> Option<Block>
     ensures { Reads IsKey key_text bytes.now result }
 {
-    let mut out = [0; 16];
-    if bytes_of(bytes, &mut out) {
-        Some(read_block(&out, 0))
-    } else {
-        None
-    }
+    let bytes = bytes_of::<16>(bytes)?;
+    Some(read_block(&bytes, 0))
 }
 
 // The fields of a sheet.

@@ -56,15 +56,14 @@ abbrev pub formed_after : Result (Unit {0}) Refusal → Store AnyCipher → Opti
 formed_after (Ok _) s former = Some s
 formed_after (Err e) s former = former
 
--- the part's length, worked out from a geometry that is the store's
-fits : (size end : ℕ) (m : List ℕ) (g h : Geometry) → h ≡ g → size ≡ g.slots * g.page → end ≡ min size (length m) → end ≡ min (h.slots * h.page) (length m)
-fits size end m g h same size_is end_is = end_is ∙ ap (λ n. min n (length m)) (size_is ∙ ap (λ k. k.slots * k.page) (sym same))
+module _ (m x w : List ℕ) (end : ℕ) (s : Store AnyCipher) (end_is : end ≡ min (s.geometry.slots * s.geometry.page) (length m)) (long : length x ≡ length (take (end - 0) m)) where
+  part : Front (s.geometry.slots * s.geometry.page) end m x
+  part = front (s.geometry.slots * s.geometry.page) end m x end_is long
 
-module _ (m x w : List ℕ) (size end : ℕ) (s : Store AnyCipher) (g : Geometry) (same : s.geometry ≡ g) (size_is : size ≡ g.slots * g.page) (end_is : end ≡ min size (length m)) (long : length x ≡ length (take (end - 0) m)) where
-  pub formed : (former : Option (Store AnyCipher)) (c : AnyCipher) (name : CipherName) (n p : ℕ) (q : Result (Unit {0}) Refusal) → s.cipher ≡ c → Under name 0 c → answered_as (λ g. (g.slots, g.page)) shapes.numbers (Ok g) ≡ shapes.answer n p
+  pub formed : (former : Option (Store AnyCipher)) (g : Geometry) (c : AnyCipher) (name : CipherName) (n p : ℕ) (q : Result (Unit {0}) Refusal) → s.geometry ≡ g → s.cipher ≡ c → Under name 0 c → answered_as (λ g. (g.slots, g.page)) shapes.numbers (Ok g) ≡ shapes.answer n p
       → Formed any.ghosts sheet.ghosts s.geometry s.cipher (take (end - 0) m) x q → Does (state former m w) (Form name n p) (state (formed_after q s former) (x ++ drop (end - 0) m) w) (done q)
-  formed former c name n p q c-is under made does =
-      let f = front (s.geometry.slots * s.geometry.page) end m x (fits size end m g s.geometry same size_is end_is) long in
+  formed former g c name n p q same c-is under made does =
+      let f = part in
       let moved : Formed any.ghosts sheet.ghosts s.geometry s.cipher (used s.geometry m) (used s.geometry (x ++ drop (end - 0) m)) q =
       subst (λ y. Formed any.ghosts sheet.ghosts s.geometry s.cipher (used s.geometry m) y q) (sym f.here)
       (subst (λ y. Formed any.ghosts sheet.ghosts s.geometry s.cipher y x q) f.before does) in
@@ -77,7 +76,7 @@ module _ (m x w : List ℕ) (size end : ℕ) (s : Store AnyCipher) (g : Geometry
   pub served : (s' : Store AnyCipher) (cmd : Command) (w' : List ℕ) (a : Answer) → s'.geometry ≡ s.geometry → Serves s.geometry s.cipher (take (end - 0) m) w cmd s'.cipher x w' a
       → OnFormed (state (Some s) m w) s.geometry s.cipher cmd (state (Some s') (x ++ drop (end - 0) m) w') a
   served s' cmd w' a kept does =
-      let f = front (s.geometry.slots * s.geometry.page) end m x (fits size end m g s.geometry same size_is end_is) long in (
+      let f = part in (
         s'.cipher,
         ap (λ h. Some (record { geometry = h; cipher = s'.cipher })) kept,
         subst (λ y. Serves s.geometry s.cipher (used s.geometry m) w cmd s'.cipher y w' a) (sym f.here)

@@ -4,7 +4,7 @@ use Rattle.std.specs.Option.{option_map}
 use Rattle.store.specs.declared.store.Store.{Store}
 use Rattle.ciphers.specs.declared.any.AnyCipher.{AnyCipher}
 use Rattle.session.specs.States.{Formed, State}
-use Rattle.line.specs.declared.bench.Bench.{Bench}
+use Rattle.line.specs.declared.bench.Bench.TheInside.{Inside}
 
 abbrev pub formed_of : Store AnyCipher → Formed
 formed_of s = record { geometry = s.geometry; cipher = s.cipher }
@@ -12,5 +12,5 @@ formed_of s = record { geometry = s.geometry; cipher = s.cipher }
 abbrev pub state : Option (Store AnyCipher) → List ℕ → List ℕ → State
 state store memory working = record { formed = option_map formed_of store; memory = memory; working = working }
 
-abbrev pub state_of : Bench → State
+abbrev pub state_of : Inside → State
 state_of b = state b.store b.memory b.working

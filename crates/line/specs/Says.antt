@@ -1,8 +1,7 @@
--- A line's answer in the caller's buffer.
-use Rattle.std.specs.Prelude.{ℕ, List}
-use Rattle.writer.specs.Writes.{Written}
+-- The text of a line's answer.
+use Rattle.std.specs.Prelude.{◌≡◌, ℕ, List}
 use Rattle.session.specs.Answers.{Answer, answer_text}
 
--- the text of an answer of which P holds was written from the front of the buffer on, and is `end` bytes long
-abbrev pub Says : (Answer → Type 0) → List ℕ → List ℕ → ℕ → Type 0
-Says P out out' end = (a : Answer) × P a × Written out 0 (answer_text a) out' end
+-- the text is that of an answer of which P holds
+abbrev pub Says : (Answer → Type 0) → List ℕ → Type 0
+Says P text = (a : Answer) × P a × (text ≡ answer_text a)

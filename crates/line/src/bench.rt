@@ -1,24 +1,30 @@
-ghost use Rattle.std.specs.Prelude.{◌≡◌, ◌≤◌, length, Option};
-ghost use Rattle.session.specs.Commanded.{Does};
+ghost use Rattle.std.specs.Prelude.{◌≡◌, Option, ◌≢◌};
 ghost use Rattle.std.specs.Option.{option_map};
 ghost use Rattle.command.specs.declared.command.Command as commands;
+ghost use Rattle.command.specs.declared.command.Command.TheVariants.{Form};
+ghost use Rattle.command.specs.Commands.{word_of};
+ghost use Rattle.command.specs.declared.command.Word.TheVariants as word;
+ghost use Rattle.session.specs.Answers.{replied};
+ghost use Rattle.session.specs.Commanded.{On, Does};
 ghost use Rattle.session.specs.States.{start};
 ghost use Rattle.session.specs.Lines.{Asks, Acts};
 ghost use Rattle.session.specs.History.{Law};
 ghost use Rattle.line.specs.Says.{Says};
-ghost use Rattle.line.specs.Benches.{state_of};
 
-use crate::act::{form, on_store};
 use crate::say::say;
+use crate::serve::serve;
+use calls::geometry::Geometry;
 use ciphers::any::AnyCipher;
+use ciphers::name::CipherName;
 use command::command::Command;
 use command::parse::parse;
+use record::sheet::Sheet;
 use session::law::lines_law;
 use session::refusal::Refusal;
+use session::reply::Reply;
+use std::marker::Model;
 use store::store::Store;
-
-// How many bytes an answer has at most.
-pub const ANSWER: usize = 8192;
+use writer::write::Text;
 
 // The bench program between two lines: what is formed, if anything, the memory, and the working buffer.
 #[derive(Drop)]
@@ -32,16 +38,24 @@ pub struct Bench {
 fn asked(line: Option<&[u8]>) -> Option<Command>
     ensures { Asks (option_map (λ x. x.now) line.entry) result }
 {
-    match line {
-        Some(line) => parse(line),
-        None => None,
-    }
+    parse(line?)
+}
+
+// Clauses see what it holds, in the words of the session.
+impl Model for Bench {
+    ghost use Rattle.session.specs.States.{State};
+
+    ghost Value = { State };
+
+    ghost use Rattle.line.specs.Benches.{state_of};
+
+    ghost view = { state_of };
 }
 
 impl Bench {
     // Nothing is formed, and all bytes are zero.
     pub fn new() -> Bench
-        ensures { state_of result ≡ start }
+        ensures { result ≡ start }
     {
         Bench {
             store: None,
@@ -50,32 +64,48 @@ impl Bench {
         }
     }
 
-    fn act(&mut self, command: Command, out: &mut [u8]) -> usize
-        requires { 8192 ≤ length out.old }
-        ensures { Says (λ a. Does (state_of self.old) command (state_of self.new) a) out.old out.new result }
+    // Forms a new store in place of the former, which stays where the new one is refused. The store has the first bytes of
+    // the memory, as many as its geometry says.
+    fn form(&mut self, name: CipherName, slots: u32, page: u32) -> Result<Reply, Refusal>
+        ensures { Does self.old (Form name slots page) self.new (replied result) }
+    {
+        let geometry = Geometry::new(slots as usize, page as usize)?;
+        let store = Store::new(AnyCipher::new(name, 0), geometry);
+        let end = geometry.memory().min(self.memory.len());
+        store.form::<Sheet>(&mut self.memory[0..end])?;
+        self.store = Some(store);
+        Ok(Reply::Done)
+    }
+
+    // A command that wants a formed store.
+    fn on_store(&mut self, command: Command, out: &mut Text)
+        requires { word_of command ≢ word.Form }
+        ensures { Says (λ a. On self.old self.old.formed command self.new a) out.new }
+    {
+        let Some(store) = &mut self.store else {
+            return say(out, Err(Refusal::Line));
+        };
+        let end = store.geometry().memory().min(self.memory.len());
+        let memory = &mut self.memory[0..end];
+        serve(store, memory, &mut self.working, command, out);
+    }
+
+    // A command, whatever is formed.
+    fn act(&mut self, command: Command, out: &mut Text)
+        ensures { Says (λ a. Does self.old command self.new a) out.new }
     {
         match command {
-            Command::Form(name, slots, page) => say(
-                out,
-                form(&mut self.store, &mut self.memory, name, slots, page),
-            ),
-            _ => on_store(
-                &mut self.store,
-                &mut self.memory,
-                &mut self.working,
-                command,
-                out,
-            ),
+            Command::Form(name, slots, page) => say(out, self.form(name, slots, page)),
+            _ => self.on_store(command, out),
         }
     }
 
-    // Answers a line: writes the text of its answer from the front of `out` on, and says how long it is.
-    pub fn answer(&mut self, line: Option<&[u8]>, out: &mut [u8; ANSWER]) -> usize
-        ensures within { result ≤ 8192 }
-        ensures says { (o : Option commands.Command) × Asks (option_map (λ x. x.now) line.entry) o × Says (λ a. Acts (state_of self.old) o (state_of self.new) a) out.old out.new result }
+    // Answers a line: writes the text of its answer, in place of what the text was.
+    pub fn answer(&mut self, line: Option<&[u8]>, out: &mut Text)
+        ensures says { (o : Option commands.Command) × Asks (option_map (λ x. x.now) line.entry) o × Says (λ a. Acts self.old o self.new a) out.new }
         ensures law { Law }
     {
-        let _ = lines_law();
+        lines_law();
         match asked(line) {
             Some(command) => self.act(command, out),
             None => say(out, Err(Refusal::Line)),

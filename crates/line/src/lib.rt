@@ -1,6 +1,5 @@
 #![tactic(auto)]
 // The bench program without its input and output: one line of text is turned into its answer.
-mod act;
 pub mod bench;
 pub mod buffer;
 mod say;

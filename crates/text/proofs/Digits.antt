@@ -1,6 +1,11 @@
 -- What is known of a numeral: its length, its first digit, its digits; and the first comma of a text.
-use Rattle.std.proofs.Common.{◌≡◌, ℕ, zero, suc, ◌+◌, ◌-◌, ◌*◌, ◌^◌, ◌<◌, ◌≤◌, List, ◌∷◌, ◌++◌, length, get_or, take, drop, decimal, sym, refl, ap, ◌∙◌, arith}
+use Rattle.std.proofs.Common.{◌≡◌, ℕ, zero, suc, ◌+◌, ◌-◌, ◌*◌, ◌^◌, ◌<◌, ◌≤◌, List, ◌∷◌, ◌++◌, length, get_or, take, drop, decimal, position, eqb, ltb, Some, None, sym, ⊎_elim, refl, ap, ◌∙◌, arith}
 use native.Mathlib.Nat.{sub-zero}
+use Rattle.std.proofs.lemmas.Bool.{cases_lt, cond-true, lt-ltb, eqb-true, eqb-false}
+use Rattle.std.proofs.lemmas.List.Quantifiers.{position-Some}
+use Rattle.std.proofs.lemmas.List.Sums.{fails_before_first}
+use Rattle.std.proofs.lemmas.Option.{none-some}
+use Rattle.std.specs.List.{position_or_len}
 use Rattle.std.proofs.lemmas.List.{take_rest, take-append-drop, drop_more, get_or-take, length-take-le}
 use Rattle.std.proofs.lemmas.Str.{digit_value_digit}
 use Rattle.std.specs.Int.{IsInRange}
@@ -56,11 +61,19 @@ digit_step bs i n l ds e lo hi =
     (digits_more 10 bs i l ds small, cc)
 
 -- before and after the first comma
-pub cut_at : (bs : List ℕ) (i : ℕ) → i < length bs → get_or bs i 0 ≡ 44 → ((k : ℕ) → k < i → get_or bs k 0 ≡ 44 → ⊥) → Free (take (i - 0) bs) × (bs ≡ take (i - 0) bs ++ (44 ∷ take (length bs - (i + 1)) (drop (i + 1) bs)))
-cut_at bs i l e before = (
-  rw sub-zero (All-from_get_or (λ b. b ≡ 44 → ⊥) (take i bs) 0 (λ k h z. let n : length (take i bs) ≡ i = length-take-le i bs (omega arith) in let s : k < i = omega arith in before k s (sym (get_or-take i bs k 0 s) ∙ z))),
-  rw (sub-zero, take_rest bs (i + 1)) (sym (take-append-drop i bs) ∙ ap (λ x. take i bs ++ x) (drop_more bs i 0 l ∙ ap (λ x. x ∷ drop (i + 1) bs) e)),
-)
+pub cut_at : (bs : List ℕ) (i : ℕ) → position (λ b. eqb b 44) bs ≡ Some i → Free (take (i - 0) bs) × (bs ≡ take (i - 0) bs ++ (44 ∷ take (length bs - (i + 1)) (drop (i + 1) bs)))
+cut_at bs i is =
+    let p = position-Some (λ b. eqb b 44) bs i 0 is in
+    let e : get_or bs i 0 ≡ 44 = eqb-true (get_or bs i 0) 44 p.1 in (
+      rw sub-zero (All-from_get_or (λ b. b ≡ 44 → ⊥) (take i bs) 0 (λ k h z.
+          let n : length (take i bs) ≡ i = length-take-le i bs (omega arith) in
+          eqb-false (get_or bs k 0) 44 (p.2 k (omega arith)) (sym (get_or-take i bs k 0 (omega arith)) ∙ z))),
+      rw (sub-zero, take_rest bs (i + 1)) (sym (take-append-drop i bs) ∙ ap (λ x. take i bs ++ x) (drop_more bs i 0 p.0 ∙ ap (λ x. x ∷ drop (i + 1) bs) e)),
+    )
 
-pub cut_none : (bs : List ℕ) (i : ℕ) → i ≡ length bs → ((k : ℕ) → k < i → get_or bs k 0 ≡ 44 → ⊥) → Free bs
-cut_none bs i e before = All-from_get_or (λ b. b ≡ 44 → ⊥) bs 0 (λ k h. before k (omega arith))
+pub cut_none : (bs : List ℕ) → position (λ b. eqb b 44) bs ≡ None → Free bs
+cut_none bs none =
+    let at = position_or_len (λ b. eqb b 44) bs in
+    let all : length bs ≤ at =
+    ⊎_elim (λ (h : at < length bs). absurd (none-some at (sym none ∙ cond-true (ltb at (length bs)) (Some at) None (lt-ltb at (length bs) h)))) (λ (h : length bs ≤ at). h) (cases_lt at (length bs)) in
+    All-from_get_or (λ b. b ≡ 44 → ⊥) bs 0 (λ k h. eqb-false (get_or bs k 0) 44 (fails_before_first (λ b. eqb b 44) bs k 0 (omega arith)))

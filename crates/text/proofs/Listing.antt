@@ -1,9 +1,10 @@
 -- Numbers with commas between them.
-use Rattle.std.proofs.Common.{◌≡◌, ℕ, zero, suc, ◌+◌, ◌<◌, List, [], ◌∷◌, ◌++◌, length, get_or, take, drop, set, decimal, sym, refl, ap, ◌∙◌, append_assoc, add-one, arith}
+use Rattle.std.proofs.Common.{◌≡◌, ℕ, zero, suc, ◌+◌, ◌<◌, ◌≤◌, List, [], ◌∷◌, ◌++◌, length, get_or, take, drop, set, decimal, Some, None, Option, sym, refl, ap, ◌∙◌, subst, ⊎_elim, append_assoc, add-one, arith}
 use Rattle.std.specs.List.{AllByRecursion}
 use Rattle.std.proofs.ByRecursion.{All-push, All-get_or}
-use Rattle.std.proofs.lemmas.List.{take_more_set, take_all, length-set}
-use Rattle.text.specs.Texts.{Small, Free, listed}
+use Rattle.std.proofs.lemmas.List.{take_more_set, length-set}
+use Rattle.std.proofs.lemmas.Bool.{cases_lt}
+use Rattle.text.specs.Texts.{Small, Free, Cut, listed}
 use Rattle.text.proofs.Cuts.{same_cut, no_cut}
 use Rattle.text.proofs.Digits.{numeral_free, same_numeral}
 
@@ -23,6 +24,16 @@ listed-push [] n = refl
 listed-push (x ∷ []) n = sym (append_assoc (decimal x) (44 ∷ []) (decimal n))
 listed-push (x ∷ (y ∷ xs)) n = ap (λ t. decimal x ++ (44 ∷ t)) (listed-push (y ∷ xs) n) ∙ sym (append_assoc (decimal x) (44 ∷ heads (y ∷ xs)) (decimal n))
 
+heads_listed : (x : ℕ) (xs : List ℕ) → heads (x ∷ xs) ≡ listed (x ∷ xs) ++ (44 ∷ [])
+unfolding heads listed
+heads_listed x [] = refl
+heads_listed x (y ∷ xs) = ap (λ t. decimal x ++ (44 ∷ t)) (heads_listed y xs) ∙ sym (append_assoc (decimal x) (44 ∷ listed (y ∷ xs)) (44 ∷ []))
+
+-- one more number after some
+pub listed_push_more : (xs : List ℕ) (n : ℕ) → 0 < length xs → listed (xs ++ (n ∷ [])) ≡ listed xs ++ (44 ∷ decimal n)
+listed_push_more [] n h = absurd (omega arith)
+listed_push_more (x ∷ xs) n h = listed-push (x ∷ xs) n ∙ ap (λ t. t ++ decimal n) (heads_listed x xs) ∙ append_assoc (listed (x ∷ xs)) (44 ∷ []) (decimal n)
+
 pub listed_more : (ns : List ℕ) (i : ℕ) → i + 1 < length ns → listed (drop i ns) ≡ decimal (get_or ns i 0) ++ (44 ∷ listed (drop (i + 1) ns))
 unfolding listed
 listed_more [] i h = absurd (omega arith)
@@ -38,51 +49,68 @@ listed_last (n ∷ []) (suc i) h = absurd (omega arith)
 listed_last (n ∷ (m ∷ ns)) zero h = absurd (omega arith)
 listed_last (n ∷ (m ∷ ns)) (suc i) h = listed_last (m ∷ ns) i (omega arith)
 
--- what was read so far, and what any numbers with this text leave
-abbrev pub Reading : List ℕ → List ℕ → ℕ → List ℕ → Type 0
-Reading bs out i rest =
-    (bs ≡ heads (take i out) ++ rest) × AllByRecursion Small (take i out)
-    × ((ns : List ℕ) → length ns ≡ length out → AllByRecursion Small ns → bs ≡ listed ns → rest ≡ listed (drop i ns))
+-- that piece is number i of the numbers ns, and what follows is the text of the numbers after it
+abbrev Shows : List ℕ → ℕ → List ℕ → Option (List ℕ) → Type 0
+Shows ns i piece None = (piece ≡ decimal (get_or ns i 0)) × (i + 1 ≡ length ns)
+Shows ns i piece (Some more) = (piece ≡ decimal (get_or ns i 0)) × (i + 1 < length ns) × (more ≡ listed (drop (i + 1) ns))
 
-pub reading_none : (bs out : List ℕ) → Reading bs out 0 bs
+shows : (ns piece : List ℕ) (i : ℕ) (more : Option (List ℕ)) → i < length ns → Small (get_or ns i 0) → Free piece → Cut (listed (drop i ns)) piece more → Shows ns i piece more
+shows ns piece i None l small free cut =
+    ⊎_elim
+    (λ (h : i + 1 < length ns). absurd (no_cut piece (decimal (get_or ns i 0)) (listed (drop (i + 1) ns)) free (sym cut ∙ listed_more ns i h)))
+    (λ (h : length ns ≤ i + 1). let last : i + 1 ≡ length ns = omega arith in (sym cut ∙ listed_last ns i last, last))
+    (cases_lt (i + 1) (length ns))
+shows ns piece i (Some more) l small free cut =
+    ⊎_elim
+    (λ (h : i + 1 < length ns).
+    let same = same_cut piece more (decimal (get_or ns i 0)) (listed (drop (i + 1) ns)) free (numeral_free (get_or ns i 0) small) (sym cut ∙ listed_more ns i h) in
+    (same.0, h, same.1))
+    (λ (h : length ns ≤ i + 1). absurd (no_cut (decimal (get_or ns i 0)) piece more (numeral_free (get_or ns i 0) small) (sym (listed_last ns i (omega arith)) ∙ cut)))
+    (cases_lt (i + 1) (length ns))
+
+-- as many small numbers as there is room for, with this text
+abbrev Writes : List ℕ → List ℕ → List ℕ → Type 0
+Writes bs out ns = (length ns ≡ length out) × AllByRecursion Small ns × (bs ≡ listed ns)
+
+-- the numbers read so far, and what is left of the text, if anything: that of the numbers which are not yet read
+abbrev pub Reading : List ℕ → List ℕ → ℕ → Option (List ℕ) → Type 0
+Reading bs out i None = AllByRecursion Small (take i out) × (bs ≡ listed (take i out)) × ((ns : List ℕ) → Writes bs out ns → i ≡ length out)
+Reading bs out i (Some rest) =
+    AllByRecursion Small (take i out) × (bs ≡ heads (take i out) ++ rest) × ((ns : List ℕ) → Writes bs out ns → (i < length out) × (rest ≡ listed (drop i ns)))
+
+pub reading_none : (bs out : List ℕ) → 0 < length out → Reading bs out 0 (Some bs)
 unfolding heads
-reading_none bs out = (refl, tt, λ ns l s e. e)
+reading_none bs out some = (tt, refl, λ ns w. (some, w.2))
 
-pub reading_more : (bs out rest piece more : List ℕ) (i n : ℕ) → i + 1 < length out → Reading bs out i rest → Free piece → rest ≡ piece ++ (44 ∷ more) → Small n → piece ≡ decimal n → Reading bs (set out i n) (i + 1) more
-reading_more bs out rest piece more i n l h free e small is =
-    let t : take (i + 1) (set out i n) ≡ take i out ++ (n ∷ []) = take_more_set out i n (omega arith) in (
-      h.0 ∙ ap (λ x. heads (take i out) ++ x) (e ∙ ap (λ x. x ++ (44 ∷ more)) is ∙ sym (append_assoc (decimal n) (44 ∷ []) more))
-          ∙ sym (append_assoc (heads (take i out)) (decimal n ++ (44 ∷ [])) more)
-          ∙ ap (λ x. x ++ more) (sym (heads-push (take i out) n) ∙ ap heads (sym t)),
-      rw t (All-push Small (take i out) n h.1 small),
-      λ ns len all same.
-          let len' : length ns ≡ length out = len ∙ length-set out i n in
-          let s : Small (get_or ns i 0) = All-get_or Small ns i 0 (omega arith) all in
-          (same_cut piece more (decimal (get_or ns i 0)) (listed (drop (i + 1) ns)) free (numeral_free (get_or ns i 0) s)
-          (sym e ∙ h.2 ns len' all same ∙ listed_more ns i (omega arith))).1,
+module _ (bs out : List ℕ) (i : ℕ) (l : i < length out) (rest piece : List ℕ) (more : Option (List ℕ)) (h : Reading bs out i (Some rest)) (free : Free piece) (cut : Cut rest piece more) where
+  next : (ns : List ℕ) → Writes bs out ns → Shows ns i piece more
+  next ns w = shows ns piece i more (omega (arith, w.0)) (All-get_or Small ns i 0 (omega (arith, w.0)) w.1) free (subst (λ t. Cut t piece more) ((h.2 ns w).1) cut)
+
+  is : (ns : List ℕ) → Writes bs out ns → piece ≡ decimal (get_or ns i 0)
+  is ns w = elim more as (λ m. Shows ns i piece m → piece ≡ decimal (get_or ns i 0)) [ None ↦ λ s. s.0 | Some m ↦ λ s. s.0 ] (next ns w)
+
+  pub unread : ((n : ℕ) → Small n → piece ≡ decimal n → ⊥) → (ns : List ℕ) → Writes bs out ns → ⊥
+  unread none ns w = none (get_or ns i 0) (All-get_or Small ns i 0 (omega (arith, w.0)) w.1) (is ns w)
+
+pub reading_more : (bs out rest piece : List ℕ) (i n : ℕ) (more : Option (List ℕ)) → i < length out → Reading bs out i (Some rest) → Free piece → Cut rest piece more → Small n → piece ≡ decimal n → Reading bs (set out i n) (i + 1) more
+reading_more bs out rest piece i n more l h free cut small e =
+    let t : take (i + 1) (set out i n) ≡ take i out ++ (n ∷ []) = take_more_set out i n l in
+    let all : AllByRecursion Small (take (i + 1) (set out i n)) = rw t (All-push Small (take i out) n h.0 small) in
+    let back : (ns : List ℕ) → Writes bs (set out i n) ns → Writes bs out ns = λ ns w. (w.0 ∙ length-set out i n, w.1, w.2) in
+    step more all t back cut (λ ns w. next bs out i l rest piece more h free cut ns (back ns w))
+  where
+    step : (more : Option (List ℕ)) → AllByRecursion Small (take (i + 1) (set out i n)) → take (i + 1) (set out i n) ≡ take i out ++ (n ∷ []) → ((ns : List ℕ) → Writes bs (set out i n) ns → Writes bs out ns) → Cut rest piece more → ((ns : List ℕ) → Writes bs (set out i n) ns → Shows ns i piece more) → Reading bs (set out i n) (i + 1) more
+    step None all t back cut shown = (
+      all,
+      h.1 ∙ ap (λ x. heads (take i out) ++ x) (cut ∙ e) ∙ sym (listed-push (take i out) n) ∙ ap listed (sym t),
+      λ ns w. (shown ns w).1 ∙ w.0,
     )
-
-pub uncut : (bs out rest : List ℕ) (i : ℕ) → i + 1 < length out → Reading bs out i rest → Free rest → (ns : List ℕ) → length ns ≡ length out → AllByRecursion Small ns → bs ≡ listed ns → ⊥
-uncut bs out rest i l h free ns len all same =
-    no_cut rest (decimal (get_or ns i 0)) (listed (drop (i + 1) ns)) free (h.2 ns len all same ∙ listed_more ns i (omega arith))
-
-pub unread : (bs out rest piece more : List ℕ) (i : ℕ) → i + 1 < length out → Reading bs out i rest → Free piece → rest ≡ piece ++ (44 ∷ more) → ((n : ℕ) → Small n → piece ≡ decimal n → ⊥) → (ns : List ℕ) → length ns ≡ length out → AllByRecursion Small ns → bs ≡ listed ns → ⊥
-unread bs out rest piece more i l h free e none ns len all same =
-    let s : Small (get_or ns i 0) = All-get_or Small ns i 0 (omega arith) all in
-    none (get_or ns i 0) s (same_cut piece more (decimal (get_or ns i 0)) (listed (drop (i + 1) ns)) free (numeral_free (get_or ns i 0) s)
-    (sym e ∙ h.2 ns len all same ∙ listed_more ns i (omega arith))).0
-
-pub unended : (bs out rest : List ℕ) (i : ℕ) → i + 1 ≡ length out → Reading bs out i rest → ((n : ℕ) → Small n → rest ≡ decimal n → ⊥) → (ns : List ℕ) → length ns ≡ length out → AllByRecursion Small ns → bs ≡ listed ns → ⊥
-unended bs out rest i l h none ns len all same =
-    let s : Small (get_or ns i 0) = All-get_or Small ns i 0 (omega arith) all in
-    none (get_or ns i 0) s (h.2 ns len all same ∙ listed_last ns i (omega arith))
-
-pub reading-all : (bs out rest : List ℕ) (i n : ℕ) → i + 1 ≡ length out → Reading bs out i rest → Small n → rest ≡ decimal n → AllByRecursion Small (set out i n) × (bs ≡ listed (set out i n))
-reading-all bs out rest i n l h small e =
-    let len : length (set out i n) ≡ i + 1 = length-set out i n ∙ sym l in
-    let t : set out i n ≡ take i out ++ (n ∷ []) = sym (take_all (i + 1) (set out i n) (omega arith)) ∙ take_more_set out i n (omega arith) in (
-      rw t (All-push Small (take i out) n h.1 small),
-      h.0 ∙ ap (λ x. heads (take i out) ++ x) e ∙ sym (listed-push (take i out) n) ∙ ap listed (sym t),
+    step (Some m) all t back cut shown = (
+      all,
+      h.1 ∙ ap (λ x. heads (take i out) ++ x) (cut ∙ ap (λ x. x ++ (44 ∷ m)) e ∙ sym (append_assoc (decimal n) (44 ∷ []) m))
+          ∙ sym (append_assoc (heads (take i out)) (decimal n ++ (44 ∷ [])) m)
+          ∙ ap (λ x. x ++ m) (sym (heads-push (take i out) n) ∙ ap heads (sym t)),
+      λ ns w. (omega (arith, (shown ns w).1, w.0), (shown ns w).2),
     )
 
 -- equally many numbers with one text are the same numbers

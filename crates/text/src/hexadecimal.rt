@@ -13,21 +13,18 @@ fn nibble(b: u8) -> Option<u8>
     }
 }
 
-// Reads bytes in hexadecimal digits, as many as there is room for. False where the text is not just those.
-pub fn bytes_of(text: &[u8], out: &mut [u8]) -> bool
-    ensures { Unhexed text.now out.new result }
+// The N bytes that the text writes in hexadecimal digits, where the text is just those.
+pub fn bytes_of<const N: usize>(text: &[u8]) -> Option<[u8; N]>
+    ensures { Unhexed N text.now result }
 {
+    let mut out = [0; N];
     if text.len() != 2 * out.len() {
-        return false;
+        return None;
     }
-    for i in 0..out.len() {
-        let Some(high) = nibble(text[2 * i]) else {
-            return false;
-        };
-        let Some(low) = nibble(text[2 * i + 1]) else {
-            return false;
-        };
-        out[i] = high * 16 + low;
+    for (i, b) in out.iter_mut().enumerate() {
+        let high = nibble(text[2 * i])?;
+        let low = nibble(text[2 * i + 1])?;
+        *b = high * 16 + low;
     }
-    true
+    Some(out)
 }

@@ -1,20 +1,15 @@
-ghost use Rattle.std.specs.Prelude.{◌≡◌, ℕ, ◌<◌, ◌≤◌, ◌∷◌, ◌++◌, length, Some, None, decimal, ◌≢◌, slice_index};
-ghost use Rattle.text.specs.Texts.{Reads, Filled, Small, Free, Seven, listed};
+ghost use Rattle.std.specs.Prelude.{◌≡◌, ℕ, ◌<◌, ◌==◌, ◌∷◌, ◌++◌, decimal, position};
+ghost use Rattle.text.specs.Texts.{Reads, Filled, Small, Free, Cut, Seven, listed};
+ghost use Rattle.std.specs.Option.{option_map};
 
 // The most digits of a numeral.
 const MOST_DIGITS: usize = 5;
-
-// The least digit.
-const ZERO: u8 = b'0';
-
-// The greatest digit.
-const NINE: u8 = b'9';
 
 // The number that the bytes write: one to five digits, with no needless zero in front.
 pub fn number(bytes: &[u8]) -> Option<u32>
     ensures { Reads Small decimal bytes.now result }
 {
-    if bytes.len() == 0 || bytes.len() > MOST_DIGITS {
+    if bytes.is_empty() || bytes.len() > MOST_DIGITS {
         return None;
     }
     if bytes[0] == b'0' && bytes.len() > 1 {
@@ -22,62 +17,54 @@ pub fn number(bytes: &[u8]) -> Option<u32>
     }
     let mut n: u32 = 0;
     for b in bytes {
-        if *b < ZERO || *b > NINE {
+        if !b.is_ascii_digit() {
             return None;
         }
-        n = n * 10 + (*b - ZERO) as u32;
+        n = n * 10 + (*b - b'0') as u32;
     }
     Some(n)
 }
 
-// The place of the first comma, or the length where there is none.
-fn comma(bytes: &[u8]) -> usize
-    ensures within { result ≤ length bytes.now }
-    ensures before { (k : ℕ) → k < result → slice_index bytes.now k ≢ 44 }
-    ensures found { result < length bytes.now → slice_index bytes.now result ≡ 44 }
+// The place of the first comma.
+fn comma(bytes: &[u8]) -> Option<usize>
+    ensures { result ≡ position (λ b. b == 44) bytes.now }
 {
-    for (i, b) in bytes.iter().enumerate() {
-        if *b == b',' {
-            return i;
-        }
-    }
-    bytes.len()
+    bytes.iter().position(|b| *b == b',')
 }
 
 // What stands before the first comma, and what stands after it.
 pub fn cut<'a>(bytes: &'a [u8]) -> Option<(&'a [u8], &'a [u8])>
     ensures { elim result [ None ↦ Free bytes.now | Some p ↦ Free p.0.now × (bytes.now ≡ p.0.now ++ (44 ∷ p.1.now)) ] }
 {
-    let at = comma(bytes);
-    if at == bytes.len() {
-        return None;
-    }
+    let at = comma(bytes)?;
     Some((&bytes[0..at], &bytes[at + 1..]))
 }
 
-// Reads numbers with commas between them, as many as there is room for. False where the text is not just those.
-fn numbers(bytes: &[u8], out: &mut [u32]) -> bool
-    requires { 0 < length out.old }
-    ensures { Filled bytes.now out.new result }
+// What stands before the first comma, or all where there is none; and what stands after it.
+fn first<'a>(bytes: &'a [u8]) -> (&'a [u8], Option<&'a [u8]>)
+    ensures { Free result.0.now × Cut bytes.now result.0.now (option_map (λ x. x.now) result.1) }
 {
-    let last = out.len() - 1;
-    let mut rest = bytes;
-    for i in 0..last {
-        let Some((piece, more)) = cut(rest) else {
-            return false;
-        };
-        let Some(n) = number(piece) else {
-            return false;
-        };
-        out[i] = n;
+    match cut(bytes) {
+        Some((piece, more)) => (piece, Some(more)),
+        None => (bytes, None),
+    }
+}
+
+// The N numbers that the bytes write with commas between them, where the bytes are just those.
+fn numbers<const N: usize>(bytes: &[u8]) -> Option<[u32; N]>
+    requires { 0 < N }
+    ensures { Filled N bytes.now result }
+{
+    let mut out = [0; N];
+    let mut rest = Some(bytes);
+    for n in out.iter_mut() {
+        let (piece, more) = first(rest?);
+        *n = number(piece)?;
         rest = more;
     }
-    match number(rest) {
-        Some(n) => {
-            out[last] = n;
-            true
-        }
-        None => false,
+    match rest {
+        Some(_) => None,
+        None => Some(out),
     }
 }
 
@@ -85,10 +72,5 @@ fn numbers(bytes: &[u8], out: &mut [u32]) -> bool
 pub fn seven(bytes: &[u8]) -> Option<[u32; 7]>
     ensures { Reads Seven listed bytes.now result }
 {
-    let mut out = [0; 7];
-    if numbers(bytes, &mut out) {
-        Some(out)
-    } else {
-        None
-    }
+    numbers(bytes)
 }

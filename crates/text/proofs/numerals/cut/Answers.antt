@@ -1,11 +1,9 @@
-use Rattle.std.proofs.Common.{◌<◌, length, arith}
+use Rattle.std.proofs.Common.{sym}
 use Rattle.text.proofs.Digits.{cut_at, cut_none}
 use Rattle.text.proofs.numerals.cut.Goals as goal
 
-pub returns-then-at-bytes : goal.returns-then-at-bytes
-returns-then-at-bytes c = cut_none c.args.bytes.now c.comma-at.result c.if-at-bytes.true c.comma-at.ensures.before
+pub returns-in_err-at : goal.returns-in_err-at
+returns-in_err-at c = rw c.from_residual.ensures (cut_none c.args.bytes.now (sym c.in_err-at.ensures))
 
 pub returns : goal.returns
-returns c =
-    let l : c.comma-at.result < length c.args.bytes.now = omega (arith, c.comma-at.ensures.within, c.if-at-bytes.false) in
-    cut_at c.args.bytes.now c.comma-at.result l (c.comma-at.ensures.found l) c.comma-at.ensures.before
+returns c = cut_at c.args.bytes.now c.in_ok-at.at (sym c.in_ok-at.ensures)

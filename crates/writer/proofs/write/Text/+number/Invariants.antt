@@ -1,4 +1,4 @@
-use Rattle.writer.proofs.write.+number.Given as goal
+use Rattle.writer.proofs.write.Text.+number.Given as goal
 
 abbrev pub decreases-number : goal.decreases-number
 decreases-number l = l.n
