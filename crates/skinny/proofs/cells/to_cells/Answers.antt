@@ -1,6 +1,6 @@
 use Rattle.std.proofs.Common.{rules}
 use Rattle.skinny.specs.Skinny.{cells_of}
-use Rattle.skinny.proofs.to_cells.Goals as goal
+use Rattle.skinny.proofs.cells.to_cells.Goals as goal
 
 pub returns : goal.returns
 unfolding cells_of

@@ -1,7 +1,7 @@
 use Rattle.std.proofs.Common.{◌∙◌}
 use Rattle.block.proofs.Sixteen.{number_sixteen}
 use Rattle.skinny.specs.Skinny.{block_of}
-use Rattle.skinny.proofs.from_cells.Goals as goal
+use Rattle.skinny.proofs.cells.from_cells.Goals as goal
 
 pub returns : goal.returns
 unfolding block_of
