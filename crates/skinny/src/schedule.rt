@@ -22,10 +22,7 @@ fn upper_rows(t: u8x16) -> u8x16
 fn lower_rows(t: u8x16) -> u8x16
     ensures { result ≡ bottom t }
 {
-    t.shuffle(
-        u8x16::splat(0),
-        [8, 9, 10, 11, 12, 13, 14, 15, 16, 16, 16, 16, 16, 16, 16, 16],
-    )
+    upper_rows(t.rotate_elements_left::<8>())
 }
 
 fn permute(t: u8x16) -> u8x16
