@@ -11,15 +11,16 @@ use Rattle.block.proofs.OnBytes.{bytes_number}
 use Rattle.aes.specs.Field.{times}
 use Rattle.aes.specs.Aes.{add, circulant, key_core, key_after}
 use Rattle.aes.specs.Words.{state}
+use Rattle.aes.specs.Walk.{part}
 use Rattle.aes.specs.declared.columns.Columns.{Columns}
 use Rattle.block.proofs.Sums.{xor-left}
 use Rattle.aes.proofs.OnField.{times_byte}
 
 -- what `to_be_bytes` gives
-abbrev be_bytes : ℕ → List ℕ
+abbrev pub be_bytes : ℕ → List ℕ
 be_bytes w = w / 16777216 % 256 ∷ w / 65536 % 256 ∷ w / 256 % 256 ∷ w % 256 ∷ []
 
-be_bytes_state : (w : ℕ) → be_bytes w ≡ bytes 4 w
+pub be_bytes_state : (w : ℕ) → be_bytes w ≡ bytes 4 w
 be_bytes_state w = ap (λ (x : ℕ). w / 16777216 % 256 ∷ w / 65536 % 256 ∷ w / 256 % 256 ∷ x % 256 ∷ []) (sym (div-one w))
 
 -- what is made of byte k of a word
@@ -87,10 +88,6 @@ module _ (p q r s : ℕ) where
   sum3 : bit_xor p (bit_xor q (bit_xor r s)) ≡ bit_xor (bit_xor (bit_xor s p) q) r
   sum3 = simp (xor_comm, xor-left, xor_assoc)
 
--- the column that a byte of row 0 adds
-abbrev pub part : (i j k l : ℕ) → ℕ → List ℕ
-part i j k l a = times i a ∷ times l a ∷ times k a ∷ times j a ∷ []
-
 module _ (i j k l : ℕ) where
   summed : (a b c d : ℕ)
       → add (part i j k l a) (turned (add (part i j k l b) (turned (add (part i j k l c) (turned (part i j k l d)))))) ≡ circulant i j k l a b c d
@@ -121,7 +118,7 @@ module _ (i j k l : ℕ) where
 
 -- ---- four words
 
-abbrev columns : (a b c d : ℕ) → Columns
+abbrev pub columns : (a b c d : ℕ) → Columns
 columns a b c d = record { a = a; b = b; c = c; d = d }
 
 pub state-xor : (a b c d e f g h : ℕ) → state (columns (bit_xor a e) (bit_xor b f) (bit_xor c g) (bit_xor d h)) ≡ add (state (columns a b c d)) (state (columns e f g h))

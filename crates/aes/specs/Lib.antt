@@ -1,3 +1,4 @@
 pub mod Field
 pub mod Aes
 pub mod Words
+pub mod Walk

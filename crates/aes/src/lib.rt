@@ -2,24 +2,28 @@
 // AES-128 of FIPS 197, with its round keys expanded once, by tables of 32-bit words.
 ghost use Rattle.std.specs.Prelude.{◌≡◌, map};
 ghost use Rattle.aes.specs.Field.{IsInverse};
-ghost use Rattle.aes.specs.Aes.{inv_mixed_columns, aes_encrypted, aes_decrypted, Inverses, Examples};
+ghost use Rattle.aes.specs.Aes.{aes_encrypted, aes_decrypted, Inverses, Examples};
 ghost use Rattle.aes.specs.Words.{state, keys_of_rounds};
+ghost use Rattle.aes.specs.Walk.{inverted_keys};
 
 use block::diblock::Block;
 use columns::Columns;
+use direction::{Decryption, Encryption};
 
 mod columns;
+mod direction;
+mod rounds;
 mod schedule;
 mod tables;
 
-// A key, its round keys, and these through InvMixColumns.
+// A key, its round keys, and those that decryption adds.
 #[derive(Drop)]
 pub struct Aes {
     key: Block,
     forward: [Columns; 11],
     backward: [Columns; 11],
     ghost expanded: { map state forward ≡ keys_of_rounds key },
-    ghost inverted: { map state backward ≡ map inv_mixed_columns (keys_of_rounds key) },
+    ghost inverted: { map state backward ≡ inverted_keys (keys_of_rounds key) },
 }
 
 impl Aes {
@@ -44,21 +48,13 @@ impl Aes {
     pub fn encrypt(&self, block: Block) -> Block
         ensures { result ≡ aes_encrypted self.now.key block }
     {
-        let mut x = Columns::from_block(block).add_round_key(self.forward[0]);
-        for i in 1..10 {
-            x = x.round(self.forward[i]);
-        }
-        x.last_round(self.forward[10]).to_block()
+        rounds::walk::<Encryption>(&self.forward, block)
     }
 
     // The equivalent inverse cipher, which gives what the inverse cipher of FIPS 197 gives.
     pub fn decrypt(&self, block: Block) -> Block
         ensures { result ≡ aes_decrypted self.now.key block }
     {
-        let mut x = Columns::from_block(block).add_round_key(self.forward[10]);
-        for i in (1..10).rev() {
-            x = x.inv_round(self.backward[i]);
-        }
-        x.last_inv_round(self.forward[0]).to_block()
+        rounds::walk::<Decryption>(&self.backward, block)
     }
 }

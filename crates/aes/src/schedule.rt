@@ -4,9 +4,11 @@ ghost use Rattle.block.specs.Blocks.{bytes};
 ghost use Rattle.aes.specs.Field.{double as double_of};
 ghost use Rattle.aes.specs.Aes.{on_column, inv_mixed_columns, key_after};
 ghost use Rattle.aes.specs.Words.{state, keys_of_rounds};
+ghost use Rattle.aes.specs.Walk.{inverted_keys};
 
-use crate::columns::{Columns, inv_mixed_column, sub_column};
-use crate::tables::sub_byte;
+use crate::columns::Columns;
+use crate::direction::{Decryption, Direction, Encryption};
+use crate::rounds::{mixed_column, sub_column};
 use block::diblock::Block;
 
 // The byte times x in the field: the next round constant.
@@ -22,10 +24,10 @@ fn next_key(constant: u8, k: Columns) -> Columns
 {
     let last = k.d.to_be_bytes();
     let turned = u32::from_be_bytes([
-        sub_byte(last[1]) ^ constant,
-        sub_byte(last[2]),
-        sub_byte(last[3]),
-        sub_byte(last[0]),
+        Encryption::sub_byte(last[1]) ^ constant,
+        Encryption::sub_byte(last[2]),
+        Encryption::sub_byte(last[3]),
+        Encryption::sub_byte(last[0]),
     ]);
     let a = k.a ^ turned;
     let b = k.b ^ a;
@@ -38,11 +40,11 @@ fn next_key(constant: u8, k: Columns) -> Columns
 pub fn expand(key: Block) -> [Columns; 11]
     ensures { map state result ≡ keys_of_rounds key }
 {
-    let mut k = Columns::from_block(key);
+    let mut k = Columns::from(key);
     let mut keys = [k; 11];
     let mut constant = 1;
-    for i in 0..11 {
-        keys[i] = k;
+    for place in keys.iter_mut() {
+        *place = k;
         k = next_key(constant, k);
         constant = double(constant);
     }
@@ -53,8 +55,7 @@ pub fn expand(key: Block) -> [Columns; 11]
 fn inv_mix(w: u32) -> u32
     ensures { bytes 4 result ≡ on_column 14 11 13 9 (bytes 4 w) }
 {
-    let s = sub_column(w, w, w, w);
-    inv_mixed_column(s, s, s, s)
+    mixed_column::<Decryption>(sub_column::<Encryption>(w.to_be_bytes()).to_be_bytes())
 }
 
 fn inv_mix_columns(k: Columns) -> Columns
@@ -68,13 +69,14 @@ fn inv_mix_columns(k: Columns) -> Columns
     }
 }
 
-// The round keys of the equivalent inverse cipher: each through InvMixColumns.
+// The round keys of the equivalent inverse cipher, in its order.
 pub fn invert(keys: &[Columns; 11]) -> [Columns; 11]
-    ensures { map state result ≡ map inv_mixed_columns (map state keys.now) }
+    ensures { map state result ≡ inverted_keys (map state keys.now) }
 {
     let mut inverted = *keys;
-    for i in 0..11 {
-        inverted[i] = inv_mix_columns(keys[i]);
+    inverted.reverse();
+    for k in inverted[1..10].iter_mut() {
+        *k = inv_mix_columns(*k);
     }
     inverted
 }

@@ -1,11 +1,8 @@
-// The tables of AES-128. Each entry's rule is proved: the S-box is the inverse in the field and then the affine map, and an entry
-// of a table of words is a column of MixColumns, or of its inverse, times the S-box's byte.
-ghost use Rattle.std.specs.Prelude.{◌≡◌, [], ◌∷◌};
-ghost use Rattle.block.specs.Blocks.{bytes};
-ghost use Rattle.aes.specs.Field.{times, sbox, inv_sbox};
+// The tables of AES-128. Each entry's rule is proved, where a direction looks it up: the S-box is the inverse in the field and then
+// the affine map, and an entry of a table of words is a column of MixColumns, or of its inverse, times the S-box's byte.
 
 #[rattlefmt::skip]
-const SBOX: [u8; 256] = [
+pub const SBOX: [u8; 256] = [
     0x63, 0x7c, 0x77, 0x7b, 0xf2, 0x6b, 0x6f, 0xc5, 0x30, 0x01, 0x67, 0x2b, 0xfe, 0xd7, 0xab, 0x76,
     0xca, 0x82, 0xc9, 0x7d, 0xfa, 0x59, 0x47, 0xf0, 0xad, 0xd4, 0xa2, 0xaf, 0x9c, 0xa4, 0x72, 0xc0,
     0xb7, 0xfd, 0x93, 0x26, 0x36, 0x3f, 0xf7, 0xcc, 0x34, 0xa5, 0xe5, 0xf1, 0x71, 0xd8, 0x31, 0x15,
@@ -25,7 +22,7 @@ const SBOX: [u8; 256] = [
 ];
 
 #[rattlefmt::skip]
-const INV_SBOX: [u8; 256] = [
+pub const INV_SBOX: [u8; 256] = [
     0x52, 0x09, 0x6a, 0xd5, 0x30, 0x36, 0xa5, 0x38, 0xbf, 0x40, 0xa3, 0x9e, 0x81, 0xf3, 0xd7, 0xfb,
     0x7c, 0xe3, 0x39, 0x82, 0x9b, 0x2f, 0xff, 0x87, 0x34, 0x8e, 0x43, 0x44, 0xc4, 0xde, 0xe9, 0xcb,
     0x54, 0x7b, 0x94, 0x32, 0xa6, 0xc2, 0x23, 0x3d, 0xee, 0x4c, 0x95, 0x0b, 0x42, 0xfa, 0xc3, 0x4e,
@@ -46,7 +43,7 @@ const INV_SBOX: [u8; 256] = [
 
 // 2, 1, 1 and 3 times the S-box's byte, the high byte first.
 #[rattlefmt::skip]
-const MIXED: [u32; 256] = [
+pub const MIXED: [u32; 256] = [
     0xc66363a5, 0xf87c7c84, 0xee777799, 0xf67b7b8d, 0xfff2f20d, 0xd66b6bbd, 0xde6f6fb1, 0x91c5c554,
     0x60303050, 0x02010103, 0xce6767a9, 0x562b2b7d, 0xe7fefe19, 0xb5d7d762, 0x4dababe6, 0xec76769a,
     0x8fcaca45, 0x1f82829d, 0x89c9c940, 0xfa7d7d87, 0xeffafa15, 0xb25959eb, 0x8e4747c9, 0xfbf0f00b,
@@ -83,7 +80,7 @@ const MIXED: [u32; 256] = [
 
 // 14, 9, 13 and 11 times the inverse S-box's byte, the high byte first.
 #[rattlefmt::skip]
-const INV_MIXED: [u32; 256] = [
+pub const INV_MIXED: [u32; 256] = [
     0x51f4a750, 0x7e416553, 0x1a17a4c3, 0x3a275e96, 0x3bab6bcb, 0x1f9d45f1, 0xacfa58ab, 0x4be30393,
     0x2030fa55, 0xad766df6, 0x88cc7691, 0xf5024c25, 0x4fe5d7fc, 0xc52acbd7, 0x26354480, 0xb562a38f,
     0xdeb15a49, 0x25ba1b67, 0x45ea0e98, 0x5dfec0e1, 0xc32f7502, 0x814cf012, 0x8d4697a3, 0x6bd3f9c6,
@@ -117,31 +114,3 @@ const INV_MIXED: [u32; 256] = [
     0xcaaff381, 0xb968c43e, 0x3824342c, 0xc2a3405f, 0x161dc372, 0xbce2250c, 0x283c498b, 0xff0d9541,
     0x39a80171, 0x080cb3de, 0xd8b4e49c, 0x6456c190, 0x7bcb8461, 0xd532b670, 0x486c5c74, 0xd0b85742,
 ];
-
-// SubBytes at one byte.
-pub fn sub_byte(x: u8) -> u8
-    ensures { result ≡ sbox x }
-{
-    SBOX[x as usize]
-}
-
-// InvSubBytes at one byte.
-pub fn inv_sub_byte(x: u8) -> u8
-    ensures { result ≡ inv_sbox x }
-{
-    INV_SBOX[x as usize]
-}
-
-// What a byte of row 0 adds to its column after SubBytes and MixColumns.
-pub fn mixed_byte(x: u8) -> u32
-    ensures { bytes 4 result ≡ (times 2 (sbox x) ∷ times 1 (sbox x) ∷ times 1 (sbox x) ∷ times 3 (sbox x) ∷ []) }
-{
-    MIXED[x as usize]
-}
-
-// The same after InvSubBytes and InvMixColumns.
-pub fn inv_mixed_byte(x: u8) -> u32
-    ensures { bytes 4 result ≡ (times 14 (inv_sbox x) ∷ times 9 (inv_sbox x) ∷ times 13 (inv_sbox x) ∷ times 11 (inv_sbox x) ∷ []) }
-{
-    INV_MIXED[x as usize]
-}

@@ -5,3 +5,4 @@ pub mod Running
 pub mod Inverse
 pub mod Cell
 pub mod Linear
+pub mod Pairs

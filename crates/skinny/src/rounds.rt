@@ -45,7 +45,7 @@ fn unmix_and_unshift(x: u8x16) -> u8x16
 {
     let none = u8x16::splat(0);
     // rows s, t, p and q
-    let stpq = x.swizzle([8, 9, 10, 11, 12, 13, 14, 15, 0, 1, 2, 3, 4, 5, 6, 7]);
+    let stpq = x.rotate_elements_left::<8>();
     let q_and_p = x.swizzle([6, 7, 4, 5, 6, 7, 4, 5, 0, 1, 2, 3, 0, 1, 2, 3]);
     let t = stpq.swizzle([6, 7, 4, 5, 6, 7, 4, 5, 4, 5, 6, 7, 4, 5, 6, 7]);
     let s = stpq.shuffle(

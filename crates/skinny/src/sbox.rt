@@ -1,4 +1,5 @@
-// The S-box on all 16 cells at once, by shifts and masks: no table is read at a secret place.
+// The S-box on all 16 cells at once, by shifts and masks: no table is read at a secret place. A shift or a mask that is the same
+// for all cells is written with `splat`, as everywhere on vectors; a function for each would say no more.
 ghost use Rattle.std.specs.Prelude.{◌≡◌, map};
 ghost use Rattle.skinny.specs.Sbox.{sub, unsub};
 ghost use Rattle.skinny.specs.Running.{ordered, unordered};

@@ -1,24 +1,26 @@
-use Rattle.std.proofs.Common.{◌≡◌, ◌≤◌, length, drop, ap, ◌∙◌, arith}
-use Rattle.skinny.specs.Skinny.{cells_of, decrypted_cells, unround_of, unrounds}
-use Rattle.skinny.proofs.Loops.{unrounds_more, unrounds_none}
-use Rattle.skinny.proofs.TwoRounds.{length-round_keys}
+use Rattle.std.proofs.Common.{◌≡◌, ◌≤◌, List, [], length, sym, ap, ◌∙◌, arith}
+use Rattle.std.proofs.lemmas.List.{drop_all}
+use Rattle.std.specs.Iterator.Adapters.{rev_source}
+use Rattle.std.specs.Slice.Iter.{iter_rest}
+use Rattle.skinny.specs.Skinny.{Cells, decrypted_cells, unrounds}
+use Rattle.skinny.specs.Pairs.{in_turn}
+use Rattle.skinny.specs.declared.schedule.RoundKeys.{RoundKeys}
+use Rattle.skinny.proofs.Loops.{unrounds_two}
 use Rattle.skinny.proofs.Skinny.decrypt_cells.Goals as goal
 
-pub loop-i-init : goal.loop-i-init
-loop-i-init c =
-    let n : length c.round_keys-sums.result ≡ 56 = ap length c.round_keys-sums.ensures ∙ length-round_keys 56 0 c.args.head c.args.body (cells_of c.args.self.now.key) in
-    unrounds_none c.round_keys-sums.result c.args.block 56 (omega arith)
-
-pub loop-i-preserved : goal.loop-i-preserved
-loop-i-preserved c =
-    let n : length c.round_keys-sums.result ≡ 56 = ap length c.round_keys-sums.ensures ∙ length-round_keys 56 0 c.args.head c.args.body (cells_of c.args.self.now.key) in
-    let l : c.loop-i.i ≤ length c.round_keys-sums.result = omega arith in
-    c.unround-state.ensures ∙ ap (unround_of _) c.loop-i.invariant ∙ unrounds_more c.round_keys-sums.result _ c.args.block c.loop-i.i c.loop-i-test.true l
+pub loop-sums-preserved : goal.loop-sums-preserved
+loop-sums-preserved c =
+    simp (c.unround-state.ensures, c.unround.ensures)
+    (unrounds_two (iter_rest (rev_source c.next.new.self)) c.in-Some.sums.now c.loop-sums.state
+    ∙ ap (λ (ks : List RoundKeys). unrounds (in_turn ks) c.loop-sums.state) (sym c.in-Some.ensures.steps)
+    ∙ c.loop-sums.invariant)
 
 pub returns : goal.returns
-unfolding decrypted_cells
+unfolding unrounds decrypted_cells
 returns c =
-    let z : c.loop-i.i ≡ 0 = omega arith in
-    c.loop-i.invariant
-    ∙ ap (λ k. unrounds (drop k c.round_keys-sums.result) c.args.block) z
-    ∙ ap (λ ks. unrounds ks c.args.block) c.round_keys-sums.ensures
+    let left = iter_rest (rev_source c.loop-sums.sums-iterator) in
+    let none : length (iter_rest (rev_source c.loop-sums.sums-iterator)) ≤ 0 = omega (arith, c.in-None.ensures.steps.0) in
+    let from : iter_rest (rev_source c.into_iter-sums-iterator.result) ≡ c.round_keys-all.result = cc in
+    ap (λ (ks : List RoundKeys). unrounds (in_turn ks) c.loop-sums.state) (sym (drop_all 0 left none))
+    ∙ c.loop-sums.invariant
+    ∙ ap (λ (ks : List Cells). unrounds ks c.args.block) (ap in_turn from ∙ c.round_keys-all.ensures)

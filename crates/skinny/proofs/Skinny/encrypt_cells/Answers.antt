@@ -1,26 +1,24 @@
-use Rattle.std.proofs.Common.{◌≡◌, ◌+◌, ◌*◌, ◌<◌, ◌≤◌, length, sym, ap, ◌∙◌, arith}
-use Rattle.std.proofs.lemmas.List.{length-map}
+use Rattle.std.proofs.Common.{◌≡◌, ◌<◌, ◌≤◌, length, sym, ap, ◌∙◌, arith}
 use Rattle.skinny.specs.Skinny.{cells_of, encrypted_cells, rounds}
 use Rattle.skinny.specs.Inverse.{cells_are}
-use Rattle.skinny.proofs.Loops.{length-key_part, rounds_two, rounds_none}
+use Rattle.skinny.specs.Pairs.{in_turn}
+use Rattle.skinny.proofs.Loops.{rounds_two, rounds_none}
 use Rattle.skinny.proofs.TwoRounds.{tweaked_is}
 use Rattle.skinny.proofs.Skinny.encrypt_cells.Goals as goal
 
-pub loop-i-preserved : goal.loop-i-preserved
-loop-i-preserved c =
-    let ks = c.args.self.now.keys in
-    let n : length ks ≡ 56 = sym (length-map ks (λ k. k.cells)) ∙ ap length c.args.self.now.ok ∙ length-key_part 56 0 (cells_of c.args.self.now.key) in
-    let l : 2 * c.loop-i.i + 1 < length ks = omega arith in
-    simp (c.round-state-in-loop-i.ensures, c.round-state.ensures, c.lower_rows.ensures, c.upper_rows.ensures, c.head_after_two-tk1.ensures, c.body_after_two-tk2.ensures)
-    (sym (rounds_two (λ k. k.cells) ks _ c.loop-i.tk1 c.loop-i.tk2 c.loop-i.state c.loop-i.i l) ∙ c.loop-i.invariant)
+pub loop-keys-preserved : goal.loop-keys-preserved
+loop-keys-preserved c =
+    let keys = c.args.self.now.keys in
+    let l : c.loop-keys.keys-index < length c.args.self.now.keys = omega arith in
+    simp (c.round-state.ensures, c.round.ensures, c.under-sums.ensures.even, c.under-sums.ensures.odd, c.under-sums.ensures.head, c.under-sums.ensures.body)
+    (sym (rounds_two keys _ c.loop-keys.later.head c.loop-keys.later.body c.loop-keys.state c.loop-keys.keys-index l) ∙ c.loop-keys.invariant)
 
 pub returns : goal.returns
 unfolding encrypted_cells
 returns c =
-    let ks = c.args.self.now.keys in
-    let key = cells_of c.args.self.now.key in
-    let n : length ks ≡ 56 = sym (length-map ks (λ k. k.cells)) ∙ ap length c.args.self.now.ok ∙ length-key_part 56 0 key in
-    let l : length ks ≤ 2 * c.loop-i.i = omega arith in
-    sym (rounds_none (λ k. k.cells) ks c.loop-i.tk1 c.loop-i.tk2 c.loop-i.state c.loop-i.i l)
-    ∙ c.loop-i.invariant
-    ∙ ap (λ ks. rounds ks c.args.block) (tweaked_is _ c.args.head c.args.body key c.args.self.now.ok c.fits-head.0 c.fits-body.0 (cells_are c.args.self.now.key).0)
+    let hp : length c.args.tweak.head ≡ 16 = omega arith in
+    let hq : length c.args.tweak.body ≡ 16 = omega arith in
+    let l : length c.args.self.now.keys ≤ c.loop-keys.keys-index = omega arith in
+    sym (rounds_none c.args.self.now.keys c.loop-keys.later.head c.loop-keys.later.body c.loop-keys.state c.loop-keys.keys-index l)
+    ∙ c.loop-keys.invariant
+    ∙ ap (λ ks. rounds ks c.args.block) (tweaked_is _ c.args.tweak.head c.args.tweak.body (cells_of c.args.self.now.key) c.args.self.now.ok hp hq (cells_are c.args.self.now.key).0)

@@ -1,29 +1,24 @@
-use Rattle.std.proofs.Common.{◌≡◌, ◌+◌, ◌*◌, ◌<◌, ◌≤◌, List, ◌++◌, length, take, sym, ap, ◌∙◌, arith, length-set}
-use Rattle.std.proofs.lemmas.List.{length-map}
-use Rattle.skinny.specs.Skinny.{Cells, cells_of}
+use Rattle.std.proofs.Common.{◌≡◌, ◌<◌, ◌≤◌, length, ◌∙◌, arith, length-set}
+use Rattle.skinny.specs.Skinny.{cells_of}
 use Rattle.skinny.specs.Inverse.{cells_are}
-use Rattle.skinny.proofs.Loops.{length-key_part, tweaked_more, tweaked_none, put_two, put_all}
+use Rattle.skinny.proofs.Loops.{tweaked_stored, tweaked_none, stored_all}
 use Rattle.skinny.proofs.TwoRounds.{tweaked_is}
 use Rattle.skinny.proofs.Skinny.round_keys.Goals as goal
 
-pub loop-i-preserved : goal.loop-i-preserved
-loop-i-preserved c =
-    let ks = c.args.self.now.keys in
-    let n : length ks ≡ 56 = sym (length-map ks (λ k. k.cells)) ∙ ap length c.args.self.now.ok ∙ length-key_part 56 0 (cells_of c.args.self.now.key) in
-    let l : 2 * c.loop-i.i + 1 < length ks = omega arith in
-    let m : 2 * c.loop-i.i + 1 < length c.loop-i.sums = omega arith in (
-      simp length-set c.loop-i.invariant.0,
-      simp (c.lower_rows.ensures, c.upper_rows.ensures, c.head_after_two-tk1.ensures, c.body_after_two-tk2.ensures)
-          (put_two c.loop-i.sums c.loop-i.i _ _ _ _ m
-          (ap (λ (xs : List Cells). take (2 * c.loop-i.i) c.loop-i.sums ++ xs) (sym (tweaked_more (λ k. k.cells) ks _ c.loop-i.tk1 c.loop-i.tk2 c.loop-i.i l)) ∙ c.loop-i.invariant.1)),
+pub loop-keys-preserved : goal.loop-keys-preserved
+loop-keys-preserved c =
+    let at = c.loop-keys in
+    let l : c.loop-keys.keys-index < length c.loop-keys.keys-items = omega arith in (
+      simp length-set at.invariant.0,
+      simp (c.under.ensures.head, c.under.ensures.body)
+          (tweaked_stored at.keys-items _ c.under.result at.later.head at.later.body at.keys-index _ l c.under.ensures.even (c.under.ensures.odd ∙ simp (c.under.ensures.head, c.under.ensures.body)) at.invariant.1),
     )
 
 pub returns : goal.returns
 returns c =
-    let ks = c.args.self.now.keys in
-    let key = cells_of c.args.self.now.key in
-    let n : length ks ≡ 56 = sym (length-map ks (λ k. k.cells)) ∙ ap length c.args.self.now.ok ∙ length-key_part 56 0 key in
-    let l : length ks ≤ 2 * c.loop-i.i = omega arith in
-    let m : length c.loop-i.sums ≤ 2 * c.loop-i.i = omega arith in
-    put_all c.loop-i.sums _ _ c.loop-i.i m (tweaked_none (λ k. k.cells) ks c.loop-i.tk1 c.loop-i.tk2 c.loop-i.i l) c.loop-i.invariant.1
-    ∙ tweaked_is _ c.args.head c.args.body key c.args.self.now.ok c.fits-head.0 c.fits-body.0 (cells_are c.args.self.now.key).0
+    let at = c.loop-keys in
+    let hp : length c.args.tweak.head ≡ 16 = omega arith in
+    let hq : length c.args.tweak.body ≡ 16 = omega arith in
+    let l : length c.loop-keys.keys-items ≤ c.loop-keys.keys-index = omega arith in
+    stored_all at.keys-items at.keys-index _ _ l (tweaked_none at.keys-items at.later.head at.later.body at.keys-index l) at.invariant.1
+    ∙ tweaked_is _ c.args.tweak.head c.args.tweak.body (cells_of c.args.self.now.key) c.args.self.now.ok hp hq (cells_are c.args.self.now.key).0

@@ -1,9 +1,10 @@
-use Rattle.std.proofs.Common.{◌≡◌, ◌*◌, ◌++◌, map, length, take, drop}
+use Rattle.std.proofs.Common.{◌≡◌, ◌++◌, length, take, drop}
+use Rattle.skinny.specs.Pairs.{in_turn}
 use Rattle.skinny.proofs.TwoRounds.{tweaked_keys}
 use Rattle.skinny.proofs.Skinny.round_keys.Given as goal
 
-abbrev pub invariant-loop-i : goal.invariant-loop-i
-invariant-loop-i l =
-    (length l.sums ≡ 56)
-    × (take (2 * l.i) l.sums ++ tweaked_keys (drop (2 * l.i) (map (λ k. k.cells) l.self.keys)) l.tk1 l.tk2
-    ≡ tweaked_keys (map (λ k. k.cells) l.self.keys) l.initial.tk1 l.initial.tk2)
+abbrev pub invariant-loop-keys : goal.invariant-loop-keys
+invariant-loop-keys l =
+    (length l.keys-items ≡ 28)
+    × (in_turn (take l.keys-index l.keys-items) ++ tweaked_keys (in_turn (drop l.keys-index l.keys-items)) l.later.head l.later.body
+    ≡ tweaked_keys (in_turn l.self.keys) l.initial.later.head l.initial.later.body)
