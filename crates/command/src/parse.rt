@@ -52,7 +52,7 @@ fn fields(bytes: &[u8]) -> Option<SheetFields>
     ensures { Reads Seven (λ f. listed (list_of f)) bytes.now result }
 {
     let numbers = seven(bytes)?;
-    Some(SheetFields::of(numbers))
+    Some(SheetFields::from(numbers))
 }
 
 // What follows the word `form` and a comma.

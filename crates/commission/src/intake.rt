@@ -11,6 +11,6 @@ pub fn sheet_of(line: &[u8]) -> Result<Sheet, Refusal>
     ensures { Taken line.now result }
 {
     let numbers = seven(line).ok_or(Refusal::Line)?;
-    let sheet = Sheet::new(SheetFields::of(numbers))?;
+    let sheet = Sheet::new(SheetFields::from(numbers))?;
     Ok(sheet)
 }

@@ -24,7 +24,7 @@ const SLOT: usize = 1;
 const KEY: Block = 0;
 
 fn print_numbers(rt: &HostRuntime, title: &str, sheet: &Sheet) -> io::Result<()> {
-    let [a, b, c, d, e, f, g] = sheet.fields().numbers();
+    let [a, b, c, d, e, f, g] = <[u32; 7]>::from(sheet.fields());
     println!(rt; "{title}{a},{b},{c},{d},{e},{f},{g}")
 }
 

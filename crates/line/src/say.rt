@@ -37,7 +37,7 @@ pub fn say(out: &mut Text, answer: Result<Reply, Refusal>)
     match answer {
         Ok(Reply::Done) => out.word(b"ok"),
         Ok(Reply::Empty) => out.word(b"none"),
-        Ok(Reply::Found(sheet)) => out.numbers(&sheet.fields().numbers()),
+        Ok(Reply::Found(sheet)) => out.numbers(&<[u32; 7]>::from(sheet.fields())),
         Err(refusal) => say_refusal(out, refusal),
     }
 }

@@ -9,5 +9,5 @@ pub returns : goal.returns
 returns c =
     let ns = c.in_ok-numbers.numbers in
     let read = c.in_ok-numbers.ensures in
-    let all : ns ≡ list_of c.of.result = sym (spread-all 7 ns read.0.0) ∙ ap list_of (sym c.of.ensures) in
+    let all : ns ≡ list_of c.from.result = sym (spread-all 7 ns read.0.0) ∙ ap list_of (sym c.from.ensures) in
     (subst (AllByRecursion Small) all read.0.1, read.1 ∙ ap listed all)

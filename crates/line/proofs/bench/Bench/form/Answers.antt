@@ -17,7 +17,7 @@ returns-in_err-form c =
     let end : c.min-end.result ≡ min (s.geometry.slots * s.geometry.page) (length b.memory) = cc in
     rw (p.1, p.2, ← c.self.view_is)
     (formed b.memory c.form.new.memory b.working c.min-end.result s end c.form.auto.memory b.store c.in_ok-geometry.geometry c.new-2.result c.args.name c.args.slots c.args.page (Err c.in_err-form.field-0.0)
-    c.new-store.ensures.1 c.new-store.ensures.0 c.new-2.ensures c.in_ok-geometry.ensures c.in_err-form.ensures.does)
+    c.new-store.ensures.geometry c.new-store.ensures.cipher c.new-2.ensures c.in_ok-geometry.ensures c.in_err-form.ensures.does)
 
 pub returns : goal.returns
 returns c =
@@ -27,4 +27,4 @@ returns c =
     let end : c.min-end.result ≡ min (s.geometry.slots * s.geometry.page) (length b.memory) = cc in
     rw (← c.self.view_is)
     (formed b.memory c.form.new.memory b.working c.min-end.result s end c.form.auto.memory b.store c.in_ok-geometry.geometry c.new-2.result c.args.name c.args.slots c.args.page (Ok tt)
-    c.new-store.ensures.1 c.new-store.ensures.0 c.new-2.ensures c.in_ok-geometry.ensures c.in_ok-form.ensures.does)
+    c.new-store.ensures.geometry c.new-store.ensures.cipher c.new-2.ensures c.in_ok-geometry.ensures c.in_ok-form.ensures.does)
