@@ -8,10 +8,3 @@ pub loop-k-preserved : goal.loop-k-preserved
 loop-k-preserved c =
     sixteens_more c.args.numbers.now c.args.out.now c.loop-k.k c.loop-k.out c.write_sixteen.new.out
     c.loop-k-test.true c.loop-k.invariant c.write_sixteen.ensures
-
-pub returns : goal.returns
-returns c =
-    let ns = c.args.numbers.now in
-    let all : c.loop-k.k ≡ length ns = omega arith in
-    c.loop-k.invariant
-    ∙ ap₂ (λ a k. sixteens a ++ drop (2 * k) c.args.out.now) (take_all c.loop-k.k ns c.loop-k-test.false) all

@@ -9,12 +9,3 @@ returns c =
     let f = c.args.fields in
     let made-is = sym (making-sound rules-of made f _) in
     record { value = made-is; answer = making-answer rules-of made (λ s. s.fields) (λ g p. refl) f _ made-is }
-
-pub returns-in_err-check : goal.returns-in_err-check
-returns-in_err-check c =
-    let f = c.args.fields in
-    let fault = c.in_err-check.field-0.0 in
-    let wrong = c.in_err-check.ensures in
-    let is : c.from_residual.result ≡ Err fault = search rules in
-    let made-is = is ∙ sym (making_wrong rules-of made f fault.field wrong.0 wrong.1) in
-    record { value = made-is; answer = making-answer rules-of made (λ s. s.fields) (λ g p. refl) f _ made-is }

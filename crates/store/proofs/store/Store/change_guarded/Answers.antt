@@ -5,14 +5,6 @@ use Rattle.page.proofs.Opening.{told}
 use Rattle.store.proofs.Passes.{rewritten}
 use Rattle.store.proofs.store.Store.change_guarded.Goals as goal
 
-pub returns-in_err-look : goal.returns-in_err-look
-returns-in_err-look g c =
-    let p = err_from_is_err_and c.from_residual.result c.from_residual.ensures.1 in
-    record {
-      answer = rw (p.1, p.2) (refl, c.in_err-look.ensures);
-      wiped = c.drop-guard.ensures ∙ ap (λ n. replicate n 0) (omega (arith, c.look.auto.working));
-    }
-
 pub returns : goal.returns
 returns g c =
     let cipher = g.met.C.TweakableCipher in
