@@ -7,7 +7,7 @@ use Rattle.std.proofs.lemmas.List.Sums.{fold_more}
 use Rattle.std.proofs.lemmas.Simd.{map-map}
 use Rattle.std.specs.Int.Digits.{number_from_digits}
 use Rattle.block.specs.Blocks.{bytes}
-use Rattle.aes.specs.Aes.{State, add, sub_bytes, inv_sub_bytes, shifted_rows, inv_shift_rows, on_columns, mixed_columns, inv_mixed_columns, round_key, round, rounds, cipher, inv_round_of, inv_rounds, inv_cipher, aes_encrypted, aes_decrypted}
+use Rattle.aes.specs.Aes.{State, add, sub_bytes, inv_sub_bytes, shifted_rows, inv_shift_rows, mixed_columns, inv_mixed_columns, round_key, round, rounds, cipher, inv_round_of, inv_rounds, inv_cipher, aes_encrypted, aes_decrypted}
 use Rattle.aes.specs.Words.{state, keys_of_rounds}
 use Rattle.aes.specs.Walk.{walked, inverted_keys}
 use Rattle.aes.specs.declared.columns.Columns.{Columns}

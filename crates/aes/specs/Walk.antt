@@ -23,6 +23,7 @@ diagonal order x = let y = order x in diagonal_of y.a y.b y.c y.d
 abbrev pub diagonals : (Columns → Columns) → Columns → List ℕ
 diagonals order x = diagonal order x ++ (diagonal order (turned x) ++ (diagonal order (turned (turned x)) ++ diagonal order (turned (turned (turned x)))))
 
+-- so SubBytes and ShiftRows, or their inverses, are the substitution of these
 pub shifts : (x : Columns) → shifted_rows (sub_bytes (state x)) ≡ map sbox (diagonals (λ y. y) x)
 unfolding state shifted_rows
 shifts x = refl

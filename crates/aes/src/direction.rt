@@ -43,6 +43,7 @@ pub trait Direction {
     ghost shifts: { (x : Columns) → sub_shift (state x) ≡ map sub (diagonals order x) };
 }
 
+// SubBytes, ShiftRows and MixColumns.
 pub struct Encryption;
 
 impl Direction for Encryption {
@@ -75,6 +76,7 @@ impl Direction for Encryption {
     }
 }
 
+// Their inverses.
 pub struct Decryption;
 
 impl Direction for Decryption {

@@ -10,7 +10,8 @@ use cipher::tweak::Tweak;
 use cipher::tweakable::TweakableCipher;
 use skinny::Skinny;
 
-// One of the ciphers, with its key.
+// One of the ciphers, with its key. It is an enum, and each method goes by its cases: only a run says which cipher it is, and the
+// library has no heap for an object of the trait.
 #[derive(Drop)]
 pub enum AnyCipher {
     Skinny(Skinny),

@@ -1,5 +1,5 @@
 -- The steps of the loops over pairs of rounds.
-use Rattle.std.proofs.Common.{◌≡◌, ℕ, zero, suc, ◌+◌, ◌-◌, ◌*◌, ◌<◌, ◌≤◌, List, [], ◌∷◌, ◌++◌, length, get_or, take, drop, set, sym, refl, ap, ◌∙◌, ap₂, append_assoc, append-nil, arith}
+use Rattle.std.proofs.Common.{◌≡◌, ℕ, suc, ◌+◌, ◌-◌, ◌*◌, ◌<◌, ◌≤◌, List, [], ◌∷◌, ◌++◌, length, get_or, take, drop, set, sym, refl, ap, ◌∙◌, ap₂, append_assoc, append-nil, arith}
 use Rattle.std.proofs.lemmas.List.{take_more_set, take_all, drop_more, drop_all, drop-set-lt}
 use Rattle.skinny.specs.Skinny.{Cells, add, top, constant_at, constant_cells, step3, round_of, rounds, unround_of, unrounds}
 use Rattle.skinny.specs.Running.{bottom, twice, twice2, key_part}

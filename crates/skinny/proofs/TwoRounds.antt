@@ -61,8 +61,3 @@ tweaked-double (suc n) i p q t hp hq ht =
 -- from the key's part as it is stored
 pub tweaked_is : (ks : List Cells) (p q t : Cells) → ks ≡ key_part 56 0 t → length p ≡ 16 → length q ≡ 16 → length t ≡ 16 → tweaked_keys ks p q ≡ keys_of_rounds 56 0 p q t
 tweaked_is ks p q t e hp hq ht = ap (λ (ls : List Cells). tweaked_keys ls p q) e ∙ tweaked-double 28 0 p q t hp hq ht
-
-pub length-round_keys : (n i : ℕ) (t1 t2 t3 : Cells) → length (keys_of_rounds n i t1 t2 t3) ≡ n
-unfolding keys_of_rounds
-length-round_keys zero i t1 t2 t3 = refl
-length-round_keys (suc n) i t1 t2 t3 = ap suc (length-round_keys n (suc i) (permuted t1) (step2 t2) (step3 t3))

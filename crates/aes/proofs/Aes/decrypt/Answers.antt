@@ -1,4 +1,4 @@
-use Rattle.std.proofs.Common.{refl, ap, ◌∙◌}
+use Rattle.std.proofs.Common.{◌∙◌}
 use Rattle.aes.proofs.Loops.{decrypted_walked}
 use Rattle.aes.proofs.Aes.decrypt.Goals as goal
 

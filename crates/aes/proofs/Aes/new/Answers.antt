@@ -1,8 +1,13 @@
-use Rattle.std.proofs.Common.{refl}
 use Rattle.aes.proofs.OnField.{is_inverse}
 use Rattle.aes.proofs.Inverse.{inverses}
 use Rattle.aes.proofs.Computed.{examples}
 use Rattle.aes.proofs.Aes.new.Goals as goal
 
-pub returns : goal.returns
-returns c = record { key = refl; inverses = inverses; field = is_inverse; examples = examples }
+pub returns-clause-inverses : goal.returns-clause-inverses
+returns-clause-inverses c = inverses
+
+pub returns-clause-field : goal.returns-clause-field
+returns-clause-field c = is_inverse
+
+pub returns-clause-examples : goal.returns-clause-examples
+returns-clause-examples c = examples

@@ -1,7 +1,6 @@
 use Rattle.std.proofs.Common.{◌≡◌, ◌<◌, ◌≤◌, length, sym, ap, ◌∙◌, arith}
 use Rattle.skinny.specs.Skinny.{cells_of, encrypted_cells, rounds}
 use Rattle.skinny.specs.Inverse.{cells_are}
-use Rattle.skinny.specs.Pairs.{in_turn}
 use Rattle.skinny.proofs.Loops.{rounds_two, rounds_none}
 use Rattle.skinny.proofs.TwoRounds.{tweaked_is}
 use Rattle.skinny.proofs.Skinny.encrypt_cells.Goals as goal

@@ -1,4 +1,4 @@
-use Rattle.std.proofs.Common.{◌≡◌, ◌<◌, ◌≤◌, length, arith, length-set}
+use Rattle.std.proofs.Common.{◌<◌, ◌≤◌, length, arith, length-set}
 use Rattle.skinny.proofs.Loops.{key_part_more, key_part_none, stored_all}
 use Rattle.skinny.proofs.schedule.expand.Goals as goal
 

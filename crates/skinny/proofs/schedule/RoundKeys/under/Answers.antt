@@ -1,3 +1,4 @@
+-- By hand: where a clause here is false, the search for a proof takes minutes.
 use Rattle.std.proofs.Common.{ap}
 use Rattle.skinny.specs.Skinny.{add}
 use Rattle.skinny.proofs.schedule.RoundKeys.under.Goals as goal
