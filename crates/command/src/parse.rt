@@ -78,6 +78,7 @@ fn put(bytes: &[u8]) -> Option<Command>
 }
 
 // The command that a line is: the one whose text the line is, of which there is at most one.
+#[tactic(auto, using(crate::proofs::Distinct::distinct))]
 pub fn parse(line: &[u8]) -> Option<Command>
     ensures reads { Reads Sound text line.now result }
     ensures distinct { Distinct }
