@@ -43,8 +43,9 @@ fn word(bytes: &[u8]) -> Option<Word>
 fn key(bytes: &[u8]) -> Option<Block>
     ensures { Reads IsKey key_text bytes.now result }
 {
-    let bytes = bytes_of::<16>(bytes)?;
-    Some(read_block(&bytes, 0))
+    let mut out = [0; 16];
+    bytes_of(bytes, &mut out)?;
+    Some(read_block(&out, 0))
 }
 
 // The fields of a sheet.
