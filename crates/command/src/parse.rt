@@ -43,8 +43,9 @@ fn word(bytes: &[u8]) -> Option<Word>
 fn key(bytes: &[u8]) -> Option<Block>
     ensures { Reads IsKey key_text bytes.now result }
 {
-    let bytes = bytes_of::<16>(bytes)?;
-    Some(read_block(&bytes, 0))
+    let mut out = [0; 16];
+    bytes_of(bytes, &mut out)?;
+    Some(read_block(&out, 0))
 }
 
 // The fields of a sheet.
@@ -78,6 +79,7 @@ fn put(bytes: &[u8]) -> Option<Command>
 }
 
 // The command that a line is: the one whose text the line is, of which there is at most one.
+#[tactic(auto, using(crate::proofs::Distinct::distinct))]
 pub fn parse(line: &[u8]) -> Option<Command>
     ensures reads { Reads Sound text line.now result }
     ensures distinct { Distinct }

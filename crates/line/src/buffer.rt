@@ -10,7 +10,7 @@ const MOST: usize = 256;
 // The line that is coming in, as far as it is kept: how many of the bytes are its own, or that it is too long.
 #[derive(Drop)]
 pub struct LineBuffer {
-    bytes: [u8; 256],
+    bytes: [u8; MOST],
     len: Option<usize>,
 }
 
@@ -28,7 +28,7 @@ impl LineBuffer {
         ensures { result ≡ kept [] }
     {
         LineBuffer {
-            bytes: [0; 256],
+            bytes: [0; MOST],
             len: Some(0),
         }
     }

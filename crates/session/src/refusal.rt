@@ -18,6 +18,7 @@ pub enum Refusal {
     Store(StoreRefusal),
 }
 
+// Written out, since a derived `From` has no contract.
 impl From<GeometryFault> for Refusal {
     ghost from_gives = { λ x y. y ≡ Refusal.Geometry x };
 

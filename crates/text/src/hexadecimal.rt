@@ -13,11 +13,10 @@ fn nibble(b: u8) -> Option<u8>
     }
 }
 
-// The N bytes that the text writes in hexadecimal digits, where the text is just those.
-pub fn bytes_of<const N: usize>(text: &[u8]) -> Option<[u8; N]>
-    ensures { Unhexed N text.now result }
+// Reads bytes in hexadecimal digits, as many as there is room for; none where the text is not just those.
+pub fn bytes_of(text: &[u8], out: &mut [u8]) -> Option<()>
+    ensures { Unhexed text.now out.new result }
 {
-    let mut out = [0; N];
     if text.len() != 2 * out.len() {
         return None;
     }
@@ -26,5 +25,5 @@ pub fn bytes_of<const N: usize>(text: &[u8]) -> Option<[u8; N]>
         let low = nibble(text[2 * i + 1])?;
         *b = high * 16 + low;
     }
-    Some(out)
+    Some(())
 }
