@@ -2,9 +2,6 @@ use Rattle.std.proofs.Common.{sym, refl}
 use Rattle.mode.proofs.Passes.{turn_wrote, turn_sums}
 use Rattle.zcz.proofs.layers.first_layer.Goals as goal
 
-pub loop-i-init : goal.loop-i-init
-loop-i-init g c = record { wrote = refl; sums = sym g.met.D.First.Sums.none }
-
 pub loop-i-preserved : goal.loop-i-preserved
 loop-i-preserved g c =
     let S = g.D.First.Sums in

@@ -6,9 +6,6 @@ use Rattle.mode.specs.Running.{then_on}
 use Rattle.mode.proofs.Passes.{turn_wrote, turn_sums, link_on}
 use Rattle.zcz.proofs.layers.second_layer.Goals as goal
 
-pub loop-i-init : goal.loop-i-init
-loop-i-init g c = record { wrote = refl; sums = sym g.met.D.Second.Sums.none; link = refl }
-
 pub loop-i-preserved : goal.loop-i-preserved
 loop-i-preserved g c =
     let S = g.D.Second.Sums in

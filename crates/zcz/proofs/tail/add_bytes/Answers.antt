@@ -13,11 +13,3 @@ loop-i-preserved c =
     ap (λ x. set x i (bit_xor (get_or x i 0) (get_or a i 0))) c.loop-i.invariant
     ∙ onto_more i t a c.loop-i-test.true c.requires
     ∙ ap (λ k. onto (take k t) a ++ drop k t) (sym (add-one i))
-
-pub returns : goal.returns
-returns c =
-    let t = c.args.t.now in
-    let a = c.args.a.now in
-    c.loop-i.invariant
-    ∙ ap₂ (λ x y. onto x a ++ y) (take_all _ t c.loop-i-test.false) (drop_all _ t c.loop-i-test.false)
-    ∙ append-nil (onto t a)
