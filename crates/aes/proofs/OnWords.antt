@@ -11,7 +11,7 @@ use Rattle.block.proofs.OnBytes.{bytes_number}
 use Rattle.aes.specs.Field.{times}
 use Rattle.aes.specs.Aes.{add, circulant, key_core, key_after}
 use Rattle.aes.specs.Words.{state}
-use Rattle.aes.specs.Walk.{part}
+use Rattle.aes.specs.Walk.{turned as turned_of, diagonal, part}
 use Rattle.aes.specs.declared.columns.Columns.{Columns}
 use Rattle.block.proofs.Sums.{xor-left}
 use Rattle.aes.proofs.OnField.{times_byte}
@@ -153,6 +153,18 @@ from_block x =
 pub state_is : (a b c d : ℕ) {A B C D : List ℕ} → bytes 4 a ≡ A → bytes 4 b ≡ B → bytes 4 c ≡ C → bytes 4 d ≡ D → state (columns a b c d) ≡ A ++ (B ++ (C ++ D))
 unfolding state
 state_is a b c d p q r s t = p t ++ (q t ++ (r t ++ s t))
+
+-- the same where each column is f of the diagonal of x, turned to it
+module _ (f : List ℕ → List ℕ) (order : Columns → Columns) where
+  pub turned_state : {x x1 x2 x3 : Columns} {p q r s : List ℕ} (a b c d : ℕ) → x1 ≡ turned_of x → x2 ≡ turned_of x1 → x3 ≡ turned_of x2
+      → p ≡ diagonal order x → q ≡ diagonal order x1 → r ≡ diagonal order x2 → s ≡ diagonal order x3
+      → bytes 4 a ≡ f p → bytes 4 b ≡ f q → bytes 4 c ≡ f r → bytes 4 d ≡ f s
+      → state (columns a b c d)
+      ≡ f (diagonal order x) ++ (f (diagonal order (turned_of x)) ++ (f (diagonal order (turned_of (turned_of x))) ++ f (diagonal order (turned_of (turned_of (turned_of x))))))
+  turned_state a b c d e1 e2 e3 hp hq hr hs ha hb hc hd =
+      let two = e2 ∙ ap turned_of e1 in
+      let three = e3 ∙ ap turned_of two in
+      state_is a b c d (ha ∙ ap f hp) (hb ∙ ap f (hq ∙ ap (diagonal order) e1)) (hc ∙ ap f (hr ∙ ap (diagonal order) two)) (hd ∙ ap f (hs ∙ ap (diagonal order) three))
 
 pub next_code : (rc a b c d t : ℕ) → bytes 4 t ≡ key_core rc (bytes 4 d)
     → state (columns (bit_xor a t) (bit_xor b (bit_xor a t)) (bit_xor c (bit_xor b (bit_xor a t))) (bit_xor d (bit_xor c (bit_xor b (bit_xor a t))))) ≡ key_after rc (state (columns a b c d))

@@ -57,7 +57,8 @@ fn round<D: Direction>(x: Columns, key: Columns) -> Columns
     mixed ^ key
 }
 
-// The last round has no MixColumns.
+// The last round has no MixColumns. A function that takes either function of a column as a closure would be no shorter: each closure
+// would have to state the contract of what it calls.
 fn last_round<D: Direction>(x: Columns, key: Columns) -> Columns
     ensures { state result ≡ add (D.sub_shift (state x)) (state key) }
 {
