@@ -26,6 +26,9 @@ use std::marker::Model;
 use store::store::Store;
 use writer::write::Text;
 
+// How many bytes an answer has at most.
+pub const ANSWER: usize = 8192;
+
 // The bench program between two lines: what is formed, if anything, the memory, and the working buffer.
 #[derive(Drop)]
 pub struct Bench {
@@ -78,7 +81,7 @@ impl Bench {
     }
 
     // A command that wants a formed store.
-    fn on_store(&mut self, command: Command, out: &mut Text)
+    fn on_store(&mut self, command: Command, out: &mut Text<ANSWER>)
         requires { word_of command ≢ word.Form }
         ensures { Says (λ a. On self.old self.old.formed command self.new a) out.new }
     {
@@ -91,7 +94,7 @@ impl Bench {
     }
 
     // A command, whatever is formed.
-    fn act(&mut self, command: Command, out: &mut Text)
+    fn act(&mut self, command: Command, out: &mut Text<ANSWER>)
         ensures { Says (λ a. Does self.old command self.new a) out.new }
     {
         match command {
@@ -101,7 +104,7 @@ impl Bench {
     }
 
     // Answers a line: writes the text of its answer, in place of what the text was.
-    pub fn answer(&mut self, line: Option<&[u8]>, out: &mut Text)
+    pub fn answer(&mut self, line: Option<&[u8]>, out: &mut Text<ANSWER>)
         ensures says { (o : Option commands.Command) × Asks (option_map (λ x. x.now) line.entry) o × Says (λ a. Acts self.old o self.new a) out.new }
         ensures law { Law }
     {
