@@ -1,4 +1,4 @@
-ghost use Rattle.std.specs.Prelude.{◌≡◌, Option, ◌≢◌};
+ghost use Rattle.std.specs.Prelude.{◌≡◌, ◌≤◌, length, Option, ◌≢◌};
 ghost use Rattle.std.specs.Option.{option_map};
 ghost use Rattle.command.specs.declared.command.Command as commands;
 ghost use Rattle.command.specs.declared.command.Command.TheVariants.{Form};
@@ -103,15 +103,25 @@ impl Bench {
         }
     }
 
-    // Answers a line: writes the text of its answer, in place of what the text was.
-    pub fn answer(&mut self, line: Option<&[u8]>, out: &mut Text<ANSWER>)
-        ensures says { (o : Option commands.Command) × Asks (option_map (λ x. x.now) line.entry) o × Says (λ a. Acts self.old o self.new a) out.new }
-        ensures law { Law }
+    // A line, whatever it asks.
+    fn respond(&mut self, line: Option<&[u8]>, out: &mut Text<ANSWER>)
+        ensures { (o : Option commands.Command) × Asks (option_map (λ x. x.now) line.entry) o × Says (λ a. Acts self.old o self.new a) out.new }
     {
-        lines_law();
         match asked(line) {
             Some(command) => self.act(command, out),
             None => say(out, Err(Refusal::Line)),
         }
+    }
+
+    // Answers a line: writes the text of its answer, in place of what the text was.
+    pub fn answer(&mut self, line: Option<&[u8]>, out: &mut Text<ANSWER>)
+        ensures within { length out.new ≤ 8192 }
+        ensures says { (o : Option commands.Command) × Asks (option_map (λ x. x.now) line.entry) o × Says (λ a. Acts self.old o self.new a) out.new }
+        ensures law { Law }
+    {
+        lines_law();
+        self.respond(line, out);
+        // It tells that the text is within its capacity.
+        let _ = out.as_bytes();
     }
 }
