@@ -1,6 +1,6 @@
 #![tactic(auto)]
 // The bench program: each line of the input is answered by a line of the output, as soon as it has come.
-use line::bench::Bench;
+use line::bench::{ANSWER, Bench};
 use line::buffer::LineBuffer;
 use std::io;
 use std::io::{BufWriter, ErrorKind, Write};
@@ -12,7 +12,7 @@ use writer::write::Text;
 struct Responder<W: Write + Drop> {
     bench: Bench,
     line: LineBuffer,
-    text: Text,
+    text: Text<ANSWER>,
     output: W,
 }
 

@@ -1,4 +1,4 @@
-ghost use Rattle.std.specs.Prelude.{◌≡◌, Option, ◌≢◌};
+ghost use Rattle.std.specs.Prelude.{◌≡◌, ◌≤◌, length, Option, ◌≢◌};
 ghost use Rattle.std.specs.Option.{option_map};
 ghost use Rattle.command.specs.declared.command.Command as commands;
 ghost use Rattle.command.specs.declared.command.Command.TheVariants.{Form};
@@ -25,6 +25,9 @@ use session::reply::Reply;
 use std::marker::Model;
 use store::store::Store;
 use writer::write::Text;
+
+// How many bytes an answer has at most.
+pub const ANSWER: usize = 8192;
 
 // The bench program between two lines: what is formed, if anything, the memory, and the working buffer.
 #[derive(Drop)]
@@ -78,7 +81,7 @@ impl Bench {
     }
 
     // A command that wants a formed store.
-    fn on_store(&mut self, command: Command, out: &mut Text)
+    fn on_store(&mut self, command: Command, out: &mut Text<ANSWER>)
         requires { word_of command ≢ word.Form }
         ensures { Says (λ a. On self.old self.old.formed command self.new a) out.new }
     {
@@ -91,7 +94,7 @@ impl Bench {
     }
 
     // A command, whatever is formed.
-    fn act(&mut self, command: Command, out: &mut Text)
+    fn act(&mut self, command: Command, out: &mut Text<ANSWER>)
         ensures { Says (λ a. Does self.old command self.new a) out.new }
     {
         match command {
@@ -100,15 +103,25 @@ impl Bench {
         }
     }
 
-    // Answers a line: writes the text of its answer, in place of what the text was.
-    pub fn answer(&mut self, line: Option<&[u8]>, out: &mut Text)
-        ensures says { (o : Option commands.Command) × Asks (option_map (λ x. x.now) line.entry) o × Says (λ a. Acts self.old o self.new a) out.new }
-        ensures law { Law }
+    // A line, whatever it asks.
+    fn respond(&mut self, line: Option<&[u8]>, out: &mut Text<ANSWER>)
+        ensures { (o : Option commands.Command) × Asks (option_map (λ x. x.now) line.entry) o × Says (λ a. Acts self.old o self.new a) out.new }
     {
-        lines_law();
         match asked(line) {
             Some(command) => self.act(command, out),
             None => say(out, Err(Refusal::Line)),
         }
+    }
+
+    // Answers a line: writes the text of its answer, in place of what the text was.
+    pub fn answer(&mut self, line: Option<&[u8]>, out: &mut Text<ANSWER>)
+        ensures within { length out.new ≤ 8192 }
+        ensures says { (o : Option commands.Command) × Asks (option_map (λ x. x.now) line.entry) o × Says (λ a. Acts self.old o self.new a) out.new }
+        ensures law { Law }
+    {
+        lines_law();
+        self.respond(line, out);
+        // It tells that the text is within its capacity.
+        let _ = out.as_bytes();
     }
 }

@@ -3,6 +3,7 @@ ghost use Rattle.std.specs.Prelude.{◌≡◌, [], ◌++◌, codes};
 ghost use Rattle.text.specs.Texts.{listed};
 ghost use Rattle.session.specs.Answers.{answer_text, replied, refusal_numbers};
 
+use crate::bench::ANSWER;
 use calls::refusal::Refusal as StoreRefusal;
 use page::fault::{PageFault, SlotFault};
 use session::refusal::Refusal;
@@ -10,7 +11,7 @@ use session::reply::Reply;
 use writer::write::Text;
 
 // The word, and the refusal's number and values.
-fn say_refusal(out: &mut Text, refusal: Refusal)
+fn say_refusal(out: &mut Text<ANSWER>, refusal: Refusal)
     requires { out.old ≡ [] }
     ensures { out.new ≡ codes "no," ++ listed (refusal_numbers refusal) }
 {
@@ -30,7 +31,7 @@ fn say_refusal(out: &mut Text, refusal: Refusal)
 }
 
 // Writes the text of an answer, in place of what the text was.
-pub fn say(out: &mut Text, answer: Result<Reply, Refusal>)
+pub fn say(out: &mut Text<ANSWER>, answer: Result<Reply, Refusal>)
     ensures { out.new ≡ answer_text (replied answer) }
 {
     out.clear();

@@ -16,6 +16,7 @@ ghost use Rattle.session.specs.Answers.{replied, done, told};
 ghost use Rattle.session.specs.Commanded.{Puts, shown, Serves};
 ghost use Rattle.line.specs.Says.{Says};
 
+use crate::bench::ANSWER;
 use crate::say::say;
 use block::diblock::Block;
 use ciphers::any::AnyCipher;
@@ -84,7 +85,7 @@ fn change(
 }
 
 // The stored bytes of a page, in hexadecimal.
-fn show(store: &Store<AnyCipher>, memory: &[u8], slot: u32, out: &mut Text)
+fn show(store: &Store<AnyCipher>, memory: &[u8], slot: u32, out: &mut Text<ANSWER>)
     ensures { Says (λ a. a ≡ shown (by_memory store.now.geometry memory.now (by_slot store.now.geometry slot [])) (page_of store.now.geometry.page slot memory.now)) out.new }
 {
     match store.stored_page(memory, slot as usize) {
@@ -102,7 +103,7 @@ pub fn serve(
     memory: &mut [u8],
     working: &mut [u8],
     command: Command,
-    out: &mut Text,
+    out: &mut Text<ANSWER>,
 )
     requires { word_of command ≢ word.Form }
     ensures says { Says (λ a. Serves store.old.geometry store.old.cipher memory.old working.old command store.new.cipher memory.new working.new a) out.new }

@@ -4,20 +4,20 @@ use Rattle.std.specs.Char.{digit_char}
 use Rattle.std.specs.List.{AllByRecursion}
 use Rattle.std.proofs.ByRecursion.{All-from_get_or}
 use Rattle.std.proofs.lemmas.Fmt.{decimal_step, decimal_digit, length-decimal-le}
-use Rattle.std.proofs.lemmas.List.{append-nil, length-append, length_push, length-take-le, get_or-take, take_more}
+use Rattle.std.proofs.lemmas.List.{append-nil, length-append, length-take-le, get_or-take, take_more}
 use Rattle.text.specs.Texts.{listed, hex}
 use Rattle.text.proofs.Hexes.{hex_none, hex-push, length-hex}
 use Rattle.text.proofs.Listing.{listed_push_more}
 
 -- a number: its one digit, or its last one after the others
-pub length_decimal_step : (n : ℕ) → 10 ≤ n → n < 2 ^ 32 → length (decimal n) ≡ length (decimal (n / 10)) + 1
-length_decimal_step n h w = ap length (decimal_step n h (omega arith)) ∙ length_push (decimal (n / 10)) (48 + n % 10)
+pub decimal_one : (n : ℕ) → n < 10 → (48 + n % 10) ∷ [] ≡ decimal n
+decimal_one n h = let e : n % 10 ≡ n = omega arith in rw (e, decimal_digit n h) refl
 
-pub number_digit : (text : List ℕ) (n : ℕ) → n < 10 → text ++ ((48 + n % 10) ∷ []) ≡ text ++ decimal n
-number_digit text n h = let e : n % 10 ≡ n = omega arith in rw (e, decimal_digit n h) refl
+pub decimal_more : (n : ℕ) → 10 ≤ n → n < 2 ^ 32 → decimal (n / 10) ++ ((48 + n % 10) ∷ []) ≡ decimal n
+decimal_more n h w = sym (decimal_step n h (omega arith))
 
-pub number_last : (text : List ℕ) (n : ℕ) → 10 ≤ n → n < 2 ^ 32 → text ++ decimal (n / 10) ++ ((48 + n % 10) ∷ []) ≡ text ++ decimal n
-number_last text n h w = append_assoc text (decimal (n / 10)) ((48 + n % 10) ∷ []) ∙ ap (λ t. text ++ t) (sym (decimal_step n h (omega arith)))
+pub length-decimal-tenth : (n : ℕ) → n < 2 ^ 32 → length (decimal (n / 10)) ≤ 9
+length-decimal-tenth n w = length-decimal-le 9 (n / 10) (omega arith) (omega arith) (omega arith)
 
 -- at most ten digits to a number, and a comma
 short : (n : ℕ) → n < 2 ^ 32 → length (decimal n) ≤ 10

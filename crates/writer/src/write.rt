@@ -4,23 +4,20 @@ ghost use Rattle.text.specs.Texts.{listed, hex};
 
 use std::marker::Model;
 
-// How many bytes a text has at most.
-pub const CAPACITY: usize = 8192;
-
-// A text that is being written.
+// A text that is being written, of at most N bytes.
 #[derive(Drop)]
-pub struct Text {
-    bytes: [u8; CAPACITY],
+pub struct Text<const N: usize> {
+    bytes: [u8; N],
     len: usize,
 }
 
 // Clauses see its bytes.
-impl Model for Text {
+impl<const N: usize> Model for Text<N> {
     ghost Value = { List ℕ };
 
     ghost view = { λ t. take t.len t.bytes };
 
-    ghost invariant = { λ t. t.len ≤ 8192 };
+    ghost invariant = { λ t. t.len ≤ N };
 }
 
 // A lower-case hexadecimal digit.
@@ -31,13 +28,22 @@ fn digit(n: u8) -> u8
     if n < 10 { b'0' + n } else { b'a' + (n - 10) }
 }
 
-impl Text {
+// The decimal digits of a number, with no needless zero in front.
+fn digits(n: u32) -> Text<10>
+    ensures { result ≡ decimal n }
+{
+    let mut text = if n < 10 { Text::new() } else { digits(n / 10) };
+    text.push(b'0' + (n % 10) as u8);
+    text
+}
+
+impl<const N: usize> Text<N> {
     // No byte yet.
-    pub fn new() -> Text
+    pub fn new() -> Text<N>
         ensures { result ≡ [] }
     {
         Text {
-            bytes: [0; CAPACITY],
+            bytes: [0; N],
             len: 0,
         }
     }
@@ -52,14 +58,15 @@ impl Text {
     // The bytes so far.
     pub fn as_bytes(&self) -> &[u8]
         ensures bytes { result.now ≡ self.now }
-        ensures within { length self.now ≤ CAPACITY }
+        ensures within { length self.now ≤ N }
     {
-        &self.bytes[0..self.len]
+        let bytes = &self.bytes[..];
+        &bytes[0..self.len]
     }
 
     // Adds one byte.
     fn push(&mut self, b: u8)
-        requires { length self.old < CAPACITY }
+        requires { length self.old < N }
         ensures { self.new ≡ self.old ++ (b ∷ []) }
     {
         self.bytes[self.len] = b;
@@ -68,41 +75,31 @@ impl Text {
 
     // Adds bytes as they are.
     pub fn word(&mut self, bytes: &[u8])
-        requires { length self.old + length bytes.now ≤ CAPACITY }
+        requires { length self.old + length bytes.now ≤ N }
         ensures { self.new ≡ self.old ++ bytes.now }
     {
         let end = self.len + bytes.len();
-        self.bytes[self.len..end].copy_from_slice(bytes);
+        let all = &mut self.bytes[..];
+        all[self.len..end].copy_from_slice(bytes);
         self.len = end;
-    }
-
-    // Adds a number in decimal digits, with no needless zero in front.
-    fn number(&mut self, n: u32)
-        requires { length self.old + length (decimal n) ≤ CAPACITY }
-        ensures { self.new ≡ self.old ++ decimal n }
-    {
-        if n >= 10 {
-            self.number(n / 10);
-        }
-        self.push(b'0' + (n % 10) as u8);
     }
 
     // Adds numbers with commas between them, where there is room for ten digits and a comma each.
     pub fn numbers(&mut self, ns: &[u32])
-        requires { length self.old + 11 * length ns.now ≤ CAPACITY }
+        requires { length self.old + 11 * length ns.now ≤ N }
         ensures { self.new ≡ self.old ++ listed ns.now }
     {
         for (i, n) in ns.iter().enumerate() {
             if i > 0 {
                 self.push(b',');
             }
-            self.number(*n);
+            self.word(digits(*n).as_bytes());
         }
     }
 
     // Adds bytes in hexadecimal digits, two to a byte.
     pub fn hexadecimal(&mut self, bytes: &[u8])
-        requires { length self.old + 2 * length bytes.now ≤ CAPACITY }
+        requires { length self.old + 2 * length bytes.now ≤ N }
         ensures { self.new ≡ self.old ++ hex bytes.now }
     {
         for b in bytes {
