@@ -1,10 +1,9 @@
 -- A way through the mode that is handed over as a call.
-use Rattle.std.specs.Prelude.{◌≡◌, ℕ, List, Result}
+use Rattle.std.specs.Prelude.{◌≡◌, ℕ, List, length, Result}
 use Rattle.block.specs.Answers.{answered}
 use Rattle.ciphers.specs.declared.any.AnyCipher.{AnyCipher}
 use Rattle.zcz.specs.declared.refusal.Refusal.{Refusal}
 use Rattle.zcz.specs.Refusals.{numbers, answer}
-use Rattle.std.specs.Prelude.{length}
 use denote.Ref.{Bor, MutBor}
 
 -- a call under a cipher leaves what f makes of the message, and answers by its length

@@ -1,4 +1,4 @@
-// Answers in numbers. These are the C interface's, which docs/C.md lists.
+// Answers in numbers, as the C interface has them.
 ghost use Rattle.std.specs.Prelude.{◌≡◌, ℕ};
 ghost use Rattle.c_api.specs.Answers as answers;
 

@@ -24,7 +24,7 @@ impl<R: Copy> Pair<R> {
     }
 }
 
-// A kind of records with samples, which can be compared.
+// A kind of records with samples, which are compared by their fields: records have no `==`.
 pub trait Sample: Sized {
     fn pair() -> Result<Pair<Self>, FieldFault>;
 
