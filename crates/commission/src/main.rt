@@ -52,7 +52,7 @@ fn print_kept(rt: &HostRuntime, sheet: &Sheet, kept: Option<Sheet>) -> io::Resul
     match kept {
         Some(kept) => {
             print_numbers(rt, "read back: ", &kept)?;
-            let same = kept.fields() == sheet.fields();
+            let same = kept == *sheet;
             println!(rt;
                 "{}",
                 if same {

@@ -35,11 +35,7 @@ pub fn names_slot(refusal: Refusal, slot: usize) -> bool {
 
 // Whether a slot was read, and holds this.
 pub fn is_content<R: Sample + Drop>(answer: Result<Option<R>, Refusal>, wanted: Option<R>) -> bool {
-    match (answer, wanted) {
-        (Ok(Some(found)), Some(record)) => found.same(&record),
-        (Ok(None), None) => true,
-        _ => false,
-    }
+    answer.is_ok_and(|found| found == wanted)
 }
 
 #[derive(Drop)]

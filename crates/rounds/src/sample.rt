@@ -25,10 +25,8 @@ impl<R: Copy> Pair<R> {
 }
 
 // A kind of records with samples, which are compared by their fields: records have no `==`.
-pub trait Sample: Sized {
+pub trait Sample: PartialEq + Sized {
     fn pair() -> Result<Pair<Self>, FieldFault>;
-
-    fn same(&self, other: &Self) -> bool;
 }
 
 pub fn samples<R: Sample>() -> Result<Pair<R>, Wrong> {
@@ -59,10 +57,6 @@ impl Sample for Sheet {
         })?;
         Ok(Pair { first, second })
     }
-
-    fn same(&self, other: &Sheet) -> bool {
-        self.fields() == other.fields()
-    }
 }
 
 impl Sample for ParameterSet {
@@ -82,9 +76,5 @@ impl Sample for ParameterSet {
             mode: 3,
         })?;
         Ok(Pair { first, second })
-    }
-
-    fn same(&self, other: &ParameterSet) -> bool {
-        self.fields() == other.fields()
     }
 }
