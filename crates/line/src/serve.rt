@@ -1,4 +1,4 @@
-// The commands that a formed store serves: the store, its part of the memory, and the working buffer.
+// The commands that a formed store serves. Each takes what it uses of the store, its part of the memory, and the working buffer.
 ghost use Rattle.std.specs.Prelude.{◌≡◌, [], None, Option, Result, ◌≢◌};
 ghost use Rattle.record.specs.declared.sheet.Sheet as sheets;
 ghost use Rattle.record.specs.Sheets.{making};

@@ -2,7 +2,7 @@ ghost use Rattle.std.specs.Prelude.{◌<◌};
 ghost use Rattle.std.specs.Char.{digit_char};
 ghost use Rattle.text.specs.Texts.{Reads, Unhexed};
 
-// The value of a lower-case hexadecimal digit.
+// The value of a lower-case hexadecimal digit. The library's `to_digit` takes upper case too.
 fn nibble(b: u8) -> Option<u8>
     ensures { Reads (λ d. d < 16) digit_char b result }
 {

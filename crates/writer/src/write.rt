@@ -20,7 +20,7 @@ impl<const N: usize> Model for Text<N> {
     ghost invariant = { λ t. t.len ≤ N };
 }
 
-// A lower-case hexadecimal digit.
+// A lower-case hexadecimal digit. The library's `from_digit` answers an `Option`, which here is never `None`.
 fn digit(n: u8) -> u8
     requires { n < 16 }
     ensures { result ≡ digit_char n }
@@ -28,7 +28,7 @@ fn digit(n: u8) -> u8
     if n < 10 { b'0' + n } else { b'a' + (n - 10) }
 }
 
-// The decimal digits of a number, with no needless zero in front.
+// The decimal digits of a number, with no needless zero in front. Printing by `{n}` answers a `Result`, which here cannot fail.
 fn digits(n: u32) -> Text<10>
     ensures { result ≡ decimal n }
 {
@@ -60,6 +60,7 @@ impl<const N: usize> Text<N> {
         ensures bytes { result.now ≡ self.now }
         ensures within { length self.now ≤ N }
     {
+        // A part of an array of N bytes is taken from the slice of the whole.
         let bytes = &self.bytes[..];
         &bytes[0..self.len]
     }
