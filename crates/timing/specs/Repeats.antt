@@ -3,7 +3,7 @@ use Rattle.std.specs.Prelude.{ℕ, zero, suc, Bool, cond, List, length, ◌==◌
 use Rattle.block.specs.Blocks.{block, di}
 use Rattle.block.specs.Places.{at, put}
 
-unfoldable pub iterated : {A : Type 0} → ℕ → (A → A) → A → A
+abbrev pub iterated : {A : Type 0} → ℕ → (A → A) → A → A
 iterated zero f x = x
 iterated (suc n) f x = f (iterated n f x)
 

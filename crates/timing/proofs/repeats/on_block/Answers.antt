@@ -1,7 +1,5 @@
 use Rattle.std.proofs.Common.{◌≡◌, ℕ, rules}
 use Rattle.block.specs.Blocks.{block}
-use Rattle.block.specs.Places.{at}
-use Rattle.timing.specs.Repeats.{iterated}
 use Rattle.timing.proofs.repeats.on_block.Goals as goal
 
 pub returns-clause-wrote : goal.returns-clause-wrote
@@ -11,5 +9,4 @@ returns-clause-wrote g c f gives =
     λ r x y. gives _ _ _ _ c.make-cipher.ensures in
     let moved = c.repeated-block.ensures (f c.in_ok-key_of.field-0) (λ x y post. search (rules, said)) in
     let key : c.in_ok-key_of.field-0 ≡ block w = search rules in
-    let block_is : c.repeated-block.result ≡ iterated c.args.n (f (block w)) (at w 0).right = cc in
     search rules

@@ -1,7 +1,7 @@
 use Rattle.std.proofs.Common.{◌≡◌, ℕ, length, rules}
 use Rattle.block.specs.Blocks.{block}
 use Rattle.cipher.specs.declared.tweak.Tweak.{Tweak}
-use Rattle.timing.proofs.Turns.{worked_is}
+use Rattle.timing.proofs.Worked.{worked_is}
 use Rattle.timing.proofs.repeats.on_tweaked.Goals as goal
 
 pub returns-clause-wrote : goal.returns-clause-wrote
