@@ -7,7 +7,7 @@ use Rattle.block.specs.declared.diblock.DiBlock.{DiBlock}
 use Rattle.block.specs.Blocks.{add, write, reads, writes}
 use Rattle.block.specs.Places.{at, put}
 use Rattle.block.proofs.OnBytes.{length-writes}
-use Rattle.mode.specs.Parts.{Parts, split, join, onto}
+use Rattle.mode.specs.Parts.{split, join, onto}
 use Rattle.mode.specs.Running.{wrap}
 use Rattle.mode.proofs.Partition.{split_by}
 use Rattle.mode.proofs.Passes.{reads-length}

@@ -1,8 +1,7 @@
 -- A page laid out part by part.
-use Rattle.std.proofs.Common.{◌≡◌, ℕ, ◌+◌, ◌-◌, ◌<◌, false, ◌&&◌, eqb, List, [], ◌∷◌, ◌++◌, length, get_or, drop, set, replicate, sym, refl, ap, ◌∙◌, ap₂, add-one, arith, drop-cons}
+use Rattle.std.proofs.Common.{◌≡◌, ℕ, ◌+◌, ◌-◌, List, [], ◌∷◌, ◌++◌, length, drop, set, replicate, refl, ap, ◌∙◌, ap₂, arith}
 use borrow.Rule.Slice.PartMut.{put_mid, post_of}
 use Rattle.std.proofs.lemmas.List.{length-append, take_at, drop_at, drop-replicate}
-use Rattle.std.proofs.lemmas.Bool.{eq-eqb, ne_eqb}
 
 -- a label of four bytes, a mark and a slot, written over 16 zeros
 pub head_is : (l : List ℕ) (m s : ℕ) → length l ≡ 4 → set (set (l ++ post_of 0 4 (replicate 16 0)) 4 m) 5 s ≡ l ++ (m ∷ s ∷ replicate 10 0)

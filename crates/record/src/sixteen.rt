@@ -31,7 +31,7 @@ pub fn write_sixteens(out: &mut [u8], numbers: &[u32])
     }
 }
 
-// Two's complement in 16 bits.
+// Two's complement in 16 bits. By arithmetic, since a cast must be shown to lose nothing.
 pub fn to_twos(n: i32) -> u32
     ensures { result ≡ twos n }
 {

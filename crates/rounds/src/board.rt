@@ -107,7 +107,7 @@ impl<C: TweakableCipher + Keyed + Drop> Board<C> {
         check(is_content(self.get(memory, slot)?, content), step)
     }
 
-    // Forms a memory and fills its slots, two of three.
+    // Forms a memory and fills its slots, two of three. Which record a slot gets goes by its number.
     pub fn fill<R: Record + Copy>(&self, memory: &mut [u8], pair: &Pair<R>) -> Step {
         self.form::<R>(memory)?;
         for slot in 0..self.geometry.slots() {

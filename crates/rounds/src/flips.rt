@@ -73,6 +73,7 @@ fn all_flips<C: TweakableCipher + Keyed + Drop, R: Record + Sample + Copy>() -> 
     flips_at::<C, R, 12288>(3, 4096, 819)
 }
 
+// Of both kinds. `histories`, `noise` and `technician` end alike, since no closure is generic in a kind.
 pub fn flips<C: TweakableCipher + Keyed + Drop>() -> Step {
     all_flips::<C, Sheet>()?;
     all_flips::<C, ParameterSet>()

@@ -19,7 +19,7 @@ pub fn scramble(memory: &mut [u8], seed: u32) {
     }
 }
 
-// Reads every slot. Each is read, or its page is refused; the first refusal is answered.
+// Reads every slot, by its number. Each is read, or its page is refused; the first refusal is answered.
 pub fn first_refusal<C: TweakableCipher + Keyed + Drop, R: Record + Drop>(
     board: &Board<C>,
     memory: &[u8],

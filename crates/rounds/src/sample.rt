@@ -24,7 +24,7 @@ impl<R: Copy> Pair<R> {
     }
 }
 
-// A kind of records with samples, which are compared by their fields: records have no `==`.
+// A kind of records with samples.
 pub trait Sample: PartialEq + Sized {
     fn pair() -> Result<Pair<Self>, FieldFault>;
 }

@@ -4,5 +4,4 @@ ghost use Rattle.session.specs.History.{Law};
 // its slot, unless an accepted form, or an accepted clear of it, came after.
 pub fn lines_law()
     ensures { Law }
-{
-}
+{}

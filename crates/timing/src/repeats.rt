@@ -9,7 +9,7 @@ use block::diblock::{Block, DiBlock};
 use cipher::tweak::Tweak;
 use zcz::refusal::Refusal;
 
-// What C is told: 0, or 1 where the call was handed another number of bytes than it takes.
+// What C is told, which is a number: 0, or 1 where the call was handed another number of bytes than it takes.
 pub fn told(done: Option<()>) -> u8
     ensures { result ≡ told (is_some done) }
 {

@@ -1,5 +1,6 @@
 // All pages of a memory: written, looked at, and taken from one cipher to another. A slot's number stands in its page, so the
-// loops go over the slots.
+// loops go over the slots. That a memory has the geometry's length, and a working slice a page's, stands in each contract: both
+// are lent for one call, and a view of them would be made anew in each.
 ghost use Rattle.std.specs.Prelude.{◌≡◌, length, replicate};
 ghost use Rattle.calls.specs.Memory.{Sized};
 ghost use Rattle.store.specs.Looks.{Looked, Written, Moved, Rewritten};

@@ -1,4 +1,4 @@
-use Rattle.std.proofs.Common.{◌≡◌, ◌≤◌, true, ◌&&◌, leb, length, rules}
+use Rattle.std.proofs.Common.{◌≡◌, true, ◌&&◌, leb, length, rules}
 use Rattle.std.proofs.lemmas.Bool.{and_parts, leb-true}
 use Rattle.zcz.proofs.admit.Goals as goal
 

@@ -1,6 +1,3 @@
-use Rattle.std.proofs.Common.{◌≡◌, ◌*◌, ◌++◌, length, drop, ◌∙◌, ap₂, arith}
-use Rattle.std.proofs.lemmas.List.{take_all}
-use Rattle.record.specs.Sixteens.{sixteens}
 use Rattle.record.specs.Numbers.{sixteens_more}
 use Rattle.record.proofs.sixteen.write_sixteens.Goals as goal
 

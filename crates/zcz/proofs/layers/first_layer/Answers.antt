@@ -1,4 +1,3 @@
-use Rattle.std.proofs.Common.{sym, refl}
 use Rattle.mode.proofs.Passes.{turn_wrote, turn_sums}
 use Rattle.zcz.proofs.layers.first_layer.Goals as goal
 

@@ -1,4 +1,4 @@
-use Rattle.std.proofs.Common.{◌≡◌, suc, ◌+◌, ◌/◌, sym, refl, ap, ◌∙◌, add-one}
+use Rattle.std.proofs.Common.{◌≡◌, suc, ◌+◌, ◌/◌, sym, ap, ◌∙◌, add-one}
 use Rattle.block.specs.Places.{at, put}
 use Rattle.cipher.specs.Tweaks.{tweaked}
 use Rattle.mode.specs.Mode.{chain, masked, mask}

@@ -1,6 +1,5 @@
-use Rattle.std.proofs.Common.{◌++◌, get_or, take, drop, set, sym, ap, ◌∙◌, ap₂, add-one}
+use Rattle.std.proofs.Common.{◌++◌, get_or, take, drop, set, sym, ap, ◌∙◌, add-one}
 use lib.Bits.{bit_xor}
-use Rattle.std.proofs.lemmas.List.{take_all, drop_all, append-nil}
 use Rattle.mode.specs.Parts.{onto}
 use Rattle.mode.proofs.Ends.{onto_more}
 use Rattle.zcz.proofs.tail.add_bytes.Goals as goal

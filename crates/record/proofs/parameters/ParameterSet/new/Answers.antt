@@ -1,7 +1,7 @@
-use Rattle.std.proofs.Common.{◌≡◌, Err, sym, refl, ◌∙◌, rules}
+use Rattle.std.proofs.Common.{sym, refl}
 use Rattle.record.specs.Settings.{rules as rules-of}
 use Rattle.record.specs.Parameters.{made}
-use Rattle.record.specs.Made.{making-sound, making_wrong, making-answer}
+use Rattle.record.specs.Made.{making-sound, making-answer}
 use Rattle.record.proofs.parameters.ParameterSet.new.Goals as goal
 
 pub returns : goal.returns

@@ -1,7 +1,7 @@
-use Rattle.std.proofs.Common.{◌≡◌, Err, sym, refl, ◌∙◌, rules}
+use Rattle.std.proofs.Common.{sym, refl}
 use Rattle.record.specs.Fields.{rules as rules-of}
 use Rattle.record.specs.Sheets.{made}
-use Rattle.record.specs.Made.{making-sound, making_wrong, making-answer}
+use Rattle.record.specs.Made.{making-sound, making-answer}
 use Rattle.record.proofs.sheet.Sheet.new.Goals as goal
 
 pub returns : goal.returns

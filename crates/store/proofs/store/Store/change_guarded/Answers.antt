@@ -1,5 +1,4 @@
-use Rattle.std.proofs.Common.{replicate, refl, ap, ◌∙◌, arith}
-use Rattle.std.proofs.lemmas.Result.{err_from_is_err_and}
+use Rattle.std.proofs.Common.{replicate, ap, ◌∙◌, arith}
 use Rattle.mode.proofs.Whole.{Lawful}
 use Rattle.page.proofs.Opening.{told}
 use Rattle.store.proofs.Passes.{rewritten}
