@@ -1,13 +1,12 @@
 -- The cipher and its inverse undo each other.
 use Rattle.std.proofs.Common.{◌≡◌, ℕ, zero, suc, ◌*◌, ◌^◌, ◌<◌, List, [], ◌∷◌, ◌++◌, map, length, get_or, drop, refl, ap, ◌∙◌, subst, ap₂, arith}
 use lib.Bits.{bit_xor, xor_lt}
-use lib.Lanes.{pick_l}
 use Rattle.std.specs.Int.Digits.{number_from_digits, AllBelowBase}
 use Rattle.std.proofs.lemmas.Int.Digits.{number_lt}
 use Rattle.block.specs.Blocks.{IsBlock, bytes}
 use Rattle.block.proofs.Sums.{cancel}
 use Rattle.block.proofs.Sixteen.{spread, spread-all}
-use Rattle.block.proofs.OnBytes.{length-bytes, under_bytes, number_bytes, bytes_number, under_take, under_drop, under_append}
+use Rattle.block.proofs.OnBytes.{length-bytes, under_bytes, number_bytes, bytes_number, under_take, under_drop, under_append, under_slice_index, under_pick, under_add}
 use Rattle.aes.specs.Field.{sbox, inv_sbox}
 use Rattle.aes.specs.Aes.{State, add, column, sub_bytes, inv_sub_bytes, leftward, rightward, shifted_rows, inv_shift_rows, dot, circulant, on_column, on_columns, mixed_columns, inv_mixed_columns, key_core, key_after, round_constant, round_key, round, rounds, cipher, inv_round_of, inv_rounds, inv_cipher, aes_encrypted, aes_decrypted, Inverses}
 use Rattle.aes.proofs.OnField.{double_byte, dot_byte, dot-add, sbox_byte, inv_sbox_byte, sbox_back, sbox-forth, mix_back, mix-forth}
@@ -49,15 +48,6 @@ map_undone f g keeps back (suc n) (x ∷ xs) h =
 sub_inverted : Inverted sub_bytes inv_sub_bytes
 sub_inverted = (map_undone sbox inv_sbox sbox_byte sbox_back 16, map_undone inv_sbox sbox inv_sbox_byte sbox-forth 16)
 
-under_slice_index : (xs : List ℕ) (k : ℕ) → AllBelowBase 256 xs → get_or xs k 0 < 256
-under_slice_index [] k p = omega arith
-under_slice_index (x ∷ xs) zero p = p.0
-under_slice_index (x ∷ xs) (suc k) p = under_slice_index xs k p.1
-
-under_pick : (xs ks : List ℕ) → AllBelowBase 256 xs → AllBelowBase 256 (pick_l 0 xs ks)
-under_pick xs [] p = tt
-under_pick xs (k ∷ ks) p = (under_slice_index xs k p, under_pick xs ks p)
-
 shift_inverted : Inverted shifted_rows inv_shift_rows
 unfolding shifted_rows inv_shift_rows
 shift_inverted = (
@@ -94,11 +84,6 @@ module _ (i j k l i' j' k' l' : ℕ) (back : (a b c d : ℕ) → dot i' j' k' l'
 
 mix_inverted : Inverted mixed_columns inv_mixed_columns
 mix_inverted = (columns_undone 2 3 1 1 14 11 13 9 mix_back, columns_undone 14 11 13 9 2 3 1 1 mix-forth)
-
-under_add : (xs ys : List ℕ) → AllBelowBase 256 xs → AllBelowBase 256 ys → AllBelowBase 256 (add xs ys)
-under_add [] ys p q = tt
-under_add (x ∷ xs) [] p q = tt
-under_add (x ∷ xs) (y ∷ ys) p q = (xor_lt 8 x y p.0 q.0, under_add xs ys p.1 q.1)
 
 add_undone : (n : ℕ) (xs ks : List ℕ) → length xs ≡ n → length ks ≡ n → (length (add xs ks) ≡ n) × (add (add xs ks) ks ≡ xs)
 add_undone n [] ks h e = (h, refl)

@@ -1,6 +1,8 @@
 -- Bytes and the numbers that they write, and di-blocks and their bytes.
-use Rattle.std.proofs.Common.{◌≡◌, ℕ, zero, suc, ◌+◌, ◌*◌, ◌/◌, ◌%◌, ◌^◌, ◌<◌, ◌≤◌, List, [], ◌∷◌, ◌++◌, length, take, drop, replicate, sym, refl, ap, ◌∙◌, ap₂, lt_of_lt_of_le, mod-lt, mod-eq_of_lt, mul_assoc, add-mul, pow-suc, arith, take-add}
+use Rattle.std.proofs.Common.{◌≡◌, ℕ, zero, suc, ◌+◌, ◌*◌, ◌/◌, ◌%◌, ◌^◌, ◌<◌, ◌≤◌, List, [], ◌∷◌, ◌++◌, length, get_or, take, drop, replicate, sym, refl, ap, ◌∙◌, ap₂, lt_of_lt_of_le, mod-lt, mod-eq_of_lt, mul_assoc, add-mul, pow-suc, arith, take-add}
 use native.Mathlib.Nat.{pow-succ', pow-le-pow_right}
+use lib.Bits.{bit_xor, xor_lt}
+use lib.Lanes.{pick_l, zip2}
 use lib.Arith.{mod-mul, digits_div, digits_mod}
 use Rattle.std.specs.Int.Digits.{number_from_digits, number_from_digits_after, AllBelowBase}
 use Rattle.std.proofs.lemmas.Int.Digits.{number_lt}
@@ -66,6 +68,21 @@ under_drop (suc n) (x ∷ xs) p = under_drop n xs p.1
 pub under_append : (a b : List ℕ) → AllBelowBase 256 a → AllBelowBase 256 b → AllBelowBase 256 (a ++ b)
 under_append [] b p q = q
 under_append (x ∷ a) b p q = (p.0, under_append a b p.1 q)
+
+pub under_slice_index : (xs : List ℕ) (k : ℕ) → AllBelowBase 256 xs → get_or xs k 0 < 256
+under_slice_index [] k p = omega arith
+under_slice_index (x ∷ xs) zero p = p.0
+under_slice_index (x ∷ xs) (suc k) p = under_slice_index xs k p.1
+
+pub under_pick : (xs ks : List ℕ) → AllBelowBase 256 xs → AllBelowBase 256 (pick_l 0 xs ks)
+under_pick xs [] p = tt
+under_pick xs (k ∷ ks) p = (under_slice_index xs k p, under_pick xs ks p)
+
+-- sums of bytes, place by place
+pub under_add : (xs ys : List ℕ) → AllBelowBase 256 xs → AllBelowBase 256 ys → AllBelowBase 256 (zip2 bit_xor xs ys)
+under_add [] ys p q = tt
+under_add (x ∷ xs) [] p q = tt
+under_add (x ∷ xs) (y ∷ ys) p q = (xor_lt 8 x y p.0 q.0, under_add xs ys p.1 q.1)
 
 pub under_zeros : (n : ℕ) → AllBelowBase 256 (replicate n 0)
 under_zeros zero = tt

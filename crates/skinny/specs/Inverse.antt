@@ -1,14 +1,14 @@
 -- Decryption undoes encryption, and encryption undoes decryption.
-use Rattle.std.specs.Prelude.{◌≡◌, ℕ, zero, suc, ◌*◌, ◌/◌, ◌%◌, ◌^◌, ◌<◌, List, [], ◌∷◌, ◌++◌, map, length, drop, bit_xor, slice_index, refl}
+use Rattle.std.specs.Prelude.{◌≡◌, ℕ, zero, suc, ◌*◌, ◌/◌, ◌%◌, ◌^◌, ◌<◌, List, [], ◌∷◌, ◌++◌, map, length, drop, bit_xor, refl}
 use Rattle.std.proofs.Common.{sym, ◌∙◌, ap, ap₂, subst, arith}
-use Rattle.std.proofs.lemmas.Nat.{xor_comm, xor_lt}
+use Rattle.std.proofs.lemmas.Nat.{xor_comm}
 use Rattle.std.specs.Int.Bits.{xor_assoc, xor_self}
-use Rattle.std.specs.Simd.Lanes.{Each1, pick_l}
+use Rattle.std.specs.Simd.Lanes.{Each1}
 use Rattle.std.specs.Int.Digits.{AllBelowBase, number_from_digits}
 use Rattle.std.proofs.lemmas.Int.Digits.{number_lt}
 use Rattle.std.proofs.lemmas.List.{length-map}
 use Rattle.block.specs.Blocks.{IsBlock}
-use Rattle.block.proofs.OnBytes.{under_take, under_drop, under_append, under_zeros, length-bytes, under_bytes, bytes_number, number_bytes}
+use Rattle.block.proofs.OnBytes.{under_take, under_drop, under_append, under_pick, under_add, under_zeros, length-bytes, under_bytes, bytes_number, number_bytes}
 use Rattle.block.proofs.Sixteen.{spread-all}
 use Rattle.block.proofs.Sums.{cancel}
 use Rattle.skinny.specs.Sbox.{sub, unsub}
@@ -44,23 +44,9 @@ add_twice (x ∷ xs) (k ∷ ks) h =
     ap₂ (λ (y : ℕ) (ys : List ℕ). y ∷ ys) (cancel x k) (add_twice xs ks e)
 
 -- ---- bytes stay bytes
-under_add : (xs ys : List ℕ) → AllBelowBase 256 xs → AllBelowBase 256 ys → AllBelowBase 256 (add xs ys)
-under_add [] ys p q = tt
-under_add (x ∷ xs) [] p q = tt
-under_add (x ∷ xs) (y ∷ ys) p q = (xor_lt 8 x y p.0 q.0, under_add xs ys p.1 q.1)
-
 under_map : (f : ℕ → ℕ) → ((x : ℕ) → x < 256 → f x < 256) → (xs : List ℕ) → AllBelowBase 256 xs → AllBelowBase 256 (map f xs)
 under_map f h [] p = tt
 under_map f h (x ∷ xs) p = (h x p.0, under_map f h xs p.1)
-
-under_slice_index : (xs : List ℕ) (k : ℕ) → AllBelowBase 256 xs → slice_index xs k < 256
-under_slice_index [] k p = omega arith
-under_slice_index (x ∷ xs) zero p = p.0
-under_slice_index (x ∷ xs) (suc k) p = under_slice_index xs k p.1
-
-under_pick : (xs ks : List ℕ) → AllBelowBase 256 xs → AllBelowBase 256 (pick_l 0 xs ks)
-under_pick xs [] p = tt
-under_pick xs (k ∷ ks) p = (under_slice_index xs k p, under_pick xs ks p)
 
 under_row : (r : ℕ) (s : Cells) → AllBelowBase 256 s → AllBelowBase 256 (row r s)
 under_row r s p = under_take 4 (drop (4 * r) s) (under_drop (4 * r) s p)
