@@ -39,7 +39,7 @@ pub trait Direction {
     fn ordered(x: Columns) -> Columns
         ensures { result ≡ order x };
 
-    // So each column of the state substituted and shifted is a diagonal of the columns, turned to it.
+    // Each column of the state that is substituted and shifted is a diagonal of the columns, with that column turned to the front.
     ghost shifts: { (x : Columns) → sub_shift (state x) ≡ map sub (diagonals order x) };
 }
 

@@ -68,6 +68,7 @@ impl From<Refusal> for Answer {
     }
 }
 
+// As `tell` in `messages`, of another refusal.
 pub fn done(res: Result<(), StoreRefusal>) -> Answer
     ensures { result ≡ answers.done res }
 {

@@ -1,5 +1,6 @@
 // The calls on stores, for every kind of records. The first four arguments, which stand apart in each exported signature, are
-// handed on as they are: a struct of them would be put together in ten places and taken apart again in `opened`.
+// handed on as they are: a struct of them would be put together in ten places and taken apart again in `opened`. Each call ends
+// in C's answer, which its contract tells, so each has its own `match` of what was opened.
 ghost use Rattle.std.specs.Prelude.{◌≡◌, Ok};
 ghost use Rattle.c_api.specs.Answers.{told, found_or};
 ghost use Rattle.c_api.specs.Made.{Forms, Puts, Clears, Gets, Changes, Called, CalledTo};

@@ -40,7 +40,7 @@ impl TweakableCipher for Cascade {
         self.aes.encrypt(tweak.body ^ self.aes.encrypt(tweak.head ^ self.aes.encrypt(block)))
     }
 
-    // The steps of `encrypt` taken back in the other order, of which one function for both would be an argument.
+    // The steps of `encrypt` taken back, in the other order. One function for both would have to be told the order.
     fn decrypt(&self, tweak: Tweak, block: Block) -> Block {
         self.aes.decrypt(tweak.head ^ self.aes.decrypt(tweak.body ^ self.aes.decrypt(block)))
     }

@@ -1,5 +1,5 @@
 -- What the bench program holds, in the words of the session.
-use Rattle.std.specs.Prelude.{ℕ, List, Option}
+use Rattle.std.specs.Prelude.{◌≡◌, ℕ, List, length, Option}
 use Rattle.std.specs.Option.{option_map}
 use Rattle.store.specs.declared.store.Store.{Store}
 use Rattle.ciphers.specs.declared.any.AnyCipher.{AnyCipher}
@@ -14,3 +14,7 @@ state store memory working = record { formed = option_map formed_of store; memor
 
 abbrev pub state_of : Inside → State
 state_of b = state b.store b.memory b.working
+
+-- the memory and the working buffer have the program's sizes
+abbrev pub Sized : State → Type 0
+Sized s = (length s.memory ≡ 32768) × (length s.working ≡ 4096)

@@ -9,6 +9,7 @@ ghost use Rattle.session.specs.Commanded.{On, Does};
 ghost use Rattle.session.specs.States.{start};
 ghost use Rattle.session.specs.Lines.{Asks, Acts};
 ghost use Rattle.session.specs.History.{Law};
+ghost use Rattle.line.specs.Benches.{Sized};
 ghost use Rattle.line.specs.Says.{Says};
 
 use crate::say::say;
@@ -113,15 +114,30 @@ impl Bench {
         }
     }
 
+    // The sizes are those of the arrays. Clauses see lists in their place, so this tells them.
+    fn tell_sizes(&self)
+        ensures { Sized self.now }
+    {
+        let Bench {
+            store: _,
+            memory,
+            working,
+        } = self;
+        let _ = memory.is_empty() || working.is_empty();
+    }
+
     // Answers a line: writes the text of its answer, in place of what the text was.
     pub fn answer(&mut self, line: Option<&[u8]>, out: &mut Text<ANSWER>)
         ensures within { length out.new ≤ 8192 }
+        ensures sized { Sized self.old × Sized self.new }
         ensures says { (o : Option commands.Command) × Asks (option_map (λ x. x.now) line.entry) o × Says (λ a. Acts self.old o self.new a) out.new }
         ensures law { Law }
     {
         lines_law();
+        self.tell_sizes();
         self.respond(line, out);
-        // It tells that the text is within its capacity.
+        self.tell_sizes();
+        // The call is made for its promise: that the text is within its capacity.
         let _ = out.as_bytes();
     }
 }

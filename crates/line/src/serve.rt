@@ -97,7 +97,7 @@ fn show(store: &Store<AnyCipher>, memory: &[u8], slot: u32, out: &mut Text<ANSWE
     }
 }
 
-// A command on a formed store, which form is not.
+// A command on a formed store, which form is not. What is served goes by the command's cases.
 pub fn serve(
     store: &mut Store<AnyCipher>,
     memory: &mut [u8],

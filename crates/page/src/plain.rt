@@ -61,14 +61,6 @@ fn is_zero(bytes: &[u8]) -> bool
     bytes.iter().all(|b| *b == 0)
 }
 
-// Whether each byte from a place on is zero.
-fn is_zero_from(page: &[u8], at: usize) -> bool
-    requires { at ≤ length page.now }
-    ensures { result ≡ zeros (drop at page.now) }
-{
-    is_zero(&page[at..])
-}
-
 // The record after a page's head.
 fn read_content<R: Record>(page: &[u8]) -> Result<R, FieldFault>
     requires { 64 ≤ length page.now }
@@ -84,7 +76,7 @@ fn open_page<R: Record>(page: &[u8], slot: u8) -> Result<Option<R>, PageFault>
     ensures { result ≡ opened R.Record slot page.now }
 {
     if has_head::<R>(page, EMPTY, slot) {
-        if !is_zero_from(page, HEAD) {
+        if !is_zero(&page[HEAD..]) {
             return Err(PageFault::Head);
         }
         return Ok(None);
@@ -92,7 +84,7 @@ fn open_page<R: Record>(page: &[u8], slot: u8) -> Result<Option<R>, PageFault>
     if !has_head::<R>(page, HOLDING, slot) {
         return Err(PageFault::Head);
     }
-    if !is_zero_from(page, HEAD + R::WIDTH) {
+    if !is_zero(&page[HEAD + R::WIDTH..]) {
         return Err(PageFault::Head);
     }
     let content = read_content::<R>(page)?;

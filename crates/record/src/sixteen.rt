@@ -31,14 +31,14 @@ pub fn write_sixteens(out: &mut [u8], numbers: &[u32])
     }
 }
 
-// Two's complement in 16 bits. By arithmetic, since a cast must be shown to lose nothing.
+// Two's complement in 16 bits, of every number: a cast would have to be shown to lose nothing.
 pub fn to_twos(n: i32) -> u32
     ensures { result ≡ twos n }
 {
     n.rem_euclid(65536) as u32
 }
 
-// The signed number that has this two's complement.
+// The signed number that has this two's complement, by the definition's own case.
 pub fn from_twos(n: u32) -> i32
     requires { n < 2 ^ 16 }
     ensures { result ≡ signed n }

@@ -1,4 +1,4 @@
-// A store with its geometry, whose calls are checked one by one.
+// A store, whose calls are checked one by one.
 use crate::check::{Step, Wrong, check};
 use crate::keyed::Keyed;
 use crate::sample::{Pair, Sample};
@@ -41,7 +41,6 @@ pub fn is_content<R: Sample + Drop>(answer: Result<Option<R>, Refusal>, wanted: 
 #[derive(Drop)]
 pub struct Board<C> {
     pub store: Store<C>,
-    pub geometry: Geometry,
 }
 
 impl<C: TweakableCipher + Keyed + Drop> Board<C> {
@@ -51,7 +50,6 @@ impl<C: TweakableCipher + Keyed + Drop> Board<C> {
         })?;
         Ok(Board {
             store: Store::new(C::keyed(key), geometry),
-            geometry,
         })
     }
 
@@ -67,7 +65,8 @@ impl<C: TweakableCipher + Keyed + Drop> Board<C> {
         check(self.store.clear::<R>(memory, slot).is_ok(), "clear")
     }
 
-    // What `get` answers, which is what the caller checks; the outer error is a check that failed here. It leaves the buffer's first page zero and the rest as it was.
+    // The inner result is what `get` answers, the outer error a check that failed here: that the buffer's first page is zero and the
+    // rest as it was.
     pub fn get<R: Record + Drop>(
         &self,
         memory: &[u8],
@@ -76,13 +75,13 @@ impl<C: TweakableCipher + Keyed + Drop> Board<C> {
         let mut working = [MARK; WORKING];
         let answer = self.store.get(memory, slot, &mut working);
         check(
-            is_wiped(&working, self.geometry.page()),
+            is_wiped(&working, self.store.geometry().page()),
             "the buffer after get",
         )?;
         Ok(answer)
     }
 
-    // What `change` to a key answers. It leaves the buffer's first page zero and the rest as it was.
+    // The same of `change` to a key.
     pub fn change<R: Record + Drop>(
         &mut self,
         memory: &mut [u8],
@@ -91,7 +90,7 @@ impl<C: TweakableCipher + Keyed + Drop> Board<C> {
         let mut working = [MARK; WORKING];
         let answer = self.store.change::<R>(memory, C::keyed(key), &mut working);
         check(
-            is_wiped(&working, self.geometry.page()),
+            is_wiped(&working, self.store.geometry().page()),
             "the buffer after change",
         )?;
         Ok(answer)
@@ -110,7 +109,7 @@ impl<C: TweakableCipher + Keyed + Drop> Board<C> {
     // Forms a memory and fills its slots, two of three. Which record a slot gets goes by its number.
     pub fn fill<R: Record + Copy>(&self, memory: &mut [u8], pair: &Pair<R>) -> Step {
         self.form::<R>(memory)?;
-        for slot in 0..self.geometry.slots() {
+        for slot in 0..self.store.geometry().slots() {
             if let Some(content) = pair.content(slot) {
                 self.put(memory, slot, &content)?;
             }
@@ -126,7 +125,7 @@ impl<C: TweakableCipher + Keyed + Drop> Board<C> {
         but: Option<usize>,
         step: &'static str,
     ) -> Step {
-        for slot in 0..self.geometry.slots() {
+        for slot in 0..self.store.geometry().slots() {
             if but != Some(slot) {
                 self.holds(memory, slot, pair.content(slot), step)?;
             }

@@ -1,4 +1,5 @@
-// Filled memories in which one byte is another.
+// Filled memories in which one byte is another. A memory here is an array by a const parameter, and each function with one says
+// how long it may be, since no type does.
 ghost use Rattle.std.specs.Prelude.{◌≤◌};
 
 use crate::board::{Board, NEW, OLD, is_content, is_refused, names_slot};
@@ -61,7 +62,7 @@ fn flips_at<C: TweakableCipher + Keyed + Drop, R: Record + Sample + Copy, const 
     let mut board = Board::<C>::new(OLD, slots, page)?;
     board.fill(&mut memory, &pair)?;
     for place in (0..SIZE).step_by(every.max(1)) {
-        let slot = place / board.geometry.page();
+        let slot = place / board.store.geometry().page();
         flipped(&mut board, &memory, &pair, slot, place)?;
     }
     board.holds_others(&memory, &pair, None, "get after all flips")

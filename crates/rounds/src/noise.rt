@@ -25,7 +25,7 @@ pub fn first_refusal<C: TweakableCipher + Keyed + Drop, R: Record + Drop>(
     memory: &[u8],
 ) -> Result<Option<Refusal>, Wrong> {
     let mut first = None;
-    for slot in 0..board.geometry.slots() {
+    for slot in 0..board.store.geometry().slots() {
         if let Err(refusal) = board.get::<R>(memory, slot)? {
             check(names_slot(refusal, slot), "get of any bytes")?;
             first = first.or(Some(refusal));

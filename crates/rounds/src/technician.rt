@@ -14,7 +14,7 @@ fn others_empty<C: TweakableCipher + Keyed + Drop, R: Record + Sample + Drop>(
     memory: &[u8],
     but: usize,
 ) -> Step {
-    for slot in 0..board.geometry.slots() {
+    for slot in 0..board.store.geometry().slots() {
         if slot != but {
             board.holds::<R>(memory, slot, None, "get of an untouched slot")?;
         }

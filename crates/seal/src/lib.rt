@@ -1,5 +1,6 @@
 #![tactic(auto)]
-// Sealed pages: plain pages enciphered in place, written once for all ciphers and all kinds of records.
+// Sealed pages: plain pages enciphered in place, written once for all ciphers and all kinds of records. A page is a part of
+// the caller's memory, lent for one call, so its length stands in each contract.
 ghost use Rattle.std.specs.Prelude.{◌≡◌, ◌≤◌, length, Some, None, Ok};
 ghost use Rattle.mode.specs.Permutes.{enciphered, deciphered};
 ghost use Rattle.page.specs.Pages.{plain, opened_at};

@@ -31,7 +31,7 @@ fn permute(t: u8x16) -> u8x16
     t.swizzle([9, 15, 8, 13, 10, 14, 12, 11, 0, 1, 2, 3, 4, 5, 6, 7])
 }
 
-// The head two rounds later. The permutation exchanges the halves, so two of them permute each half.
+// The head two rounds later, by a list of places as `permute` has. The permutation exchanges the halves, so two of them permute each half.
 fn head_after_two(t: u8x16) -> u8x16
     ensures { result ≡ twice t }
 {
@@ -82,7 +82,7 @@ pub struct RoundKeys {
 }
 
 impl RoundKeys {
-    // With the tweak's part beside the key's. The tweak is then that of two rounds later: in the odd round its rows 2 and 3 have
+    // With the tweak's part added to the key's. The tweak is then that of two rounds later: in the odd round its rows 2 and 3 have
     // become rows 0 and 1.
     pub fn under(self, tweak: &mut TweakCells) -> RoundKeys
         ensures even { result.even ≡ add self.even (top (add tweak.old.head tweak.old.body)) }

@@ -5,7 +5,7 @@ ghost use Rattle.std.specs.Option.{option_map};
 // The most digits of a numeral.
 const MOST_DIGITS: usize = 5;
 
-// The number that the bytes write: one to five digits, with no needless zero in front.
+// The number that the bytes write: one to five digits, with no needless zero in front, which the library's `parse` would take.
 pub fn number(bytes: &[u8]) -> Option<u32>
     ensures { Reads Small decimal bytes.now result }
 {

@@ -4,7 +4,8 @@ ghost use Rattle.text.specs.Texts.{listed, hex};
 
 use std::marker::Model;
 
-// A text that is being written, of at most N bytes.
+// A text that is being written, of at most N bytes: an array and a length, since the library has no heap and stands on no
+// other library.
 #[derive(Drop)]
 pub struct Text<const N: usize> {
     bytes: [u8; N],

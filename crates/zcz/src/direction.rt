@@ -171,7 +171,7 @@ impl Direction for Deciphering {
 
     ghost whole_is = { λ f g m. decipher_is f g m };
 
-    // Where enciphering encrypts this decrypts, which one function could only be told by an argument.
+    // Where enciphering encrypts, this decrypts. One function for both would have to be told which.
     fn first<C: TweakableCipher>(c: &C, i: u32, d: DiBlock) -> DiBlock {
         DiBlock {
             left: d.left,

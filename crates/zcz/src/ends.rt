@@ -1,4 +1,5 @@
-// What is done at the last full di-block: pairs of blocks encrypted with each other, and back.
+// Tweaks by the names of their domains, and pairs of blocks encrypted with each other, and back. Each name is a literal where
+// these are called, and is shown there to have a number.
 ghost use Rattle.std.specs.Prelude.{◌≡◌, ℕ, ◌+◌, ◌^◌, ◌<◌, true, is_some};
 ghost use Rattle.std.specs.Option.{unwrap_or};
 ghost use Rattle.cipher.specs.Tweaks.{number_of, head_of, tweaked, tweaked_by};

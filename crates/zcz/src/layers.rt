@@ -1,4 +1,5 @@
-// The layers of the mode, each over the message in place: for every di-block before the last, three cipher calls.
+// The layers of the mode, each over the message in place: for every di-block before the last, three cipher calls. The
+// message is lent, so its length and the number of di-blocks stand in the contract of each.
 ghost use Rattle.std.specs.Prelude.{◌≡◌, ℕ, suc, ◌+◌, ◌*◌, ◌^◌, ◌<◌, ◌≤◌, length};
 ghost use Rattle.block.specs.Blocks.{reads};
 ghost use Rattle.block.specs.Places.{at as di_at, put as put_at};

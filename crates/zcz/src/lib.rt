@@ -26,7 +26,7 @@ const SHORTEST: usize = 32;
 
 const LONGEST: usize = 65536;
 
-// Whether the mode takes a message of this length.
+// Refuses a message of a length that the mode does not take.
 fn admit(message: &[u8]) -> Result<(), Refusal>
     ensures { MatchResult result (λ _. Message message.now) (λ e. (e ≡ Length) × (admitted (length message.now) ≡ false)) }
 {

@@ -56,6 +56,7 @@ fn add_bytes(t: &mut [u8], a: &[u8])
     requires { length t.old ≤ length a.now }
     ensures { t.new ≡ onto t.old a.now }
 {
+    // By number: after a `zip` with what is lent to be changed, a proof knows only its length.
     for (i, b) in t.iter_mut().enumerate() {
         *b ^= a[i];
     }
