@@ -1,26 +1,24 @@
-ghost use Rattle.std.specs.Prelude.{◌≡◌, ℕ, ◌≤◌, List, [], ◌∷◌, ◌++◌, length, take, Option, ◌==◌};
-ghost use Rattle.std.specs.Option.{option_map, ForSome};
+ghost use Rattle.std.specs.Prelude.{◌≡◌, ℕ, List, [], ◌∷◌, ◌++◌, length, Option, ◌==◌};
+ghost use Rattle.std.specs.Option.{option_map};
 ghost use Rattle.session.specs.Lines.{kept};
 
 use std::marker::Model;
+use writer::write::Text;
 
 // How many bytes a line has at most.
 const MOST: usize = 256;
 
-// The line that is coming in, as far as it is kept: how many of the bytes are its own, or that it is too long.
+// The line that is coming in, as far as it is kept, or nothing once it is too long.
 #[derive(Drop)]
 pub struct LineBuffer {
-    bytes: [u8; MOST],
-    len: Option<usize>,
+    text: Option<Text<MOST>>,
 }
 
 // Clauses see the line's bytes, or nothing once it is too long.
 impl Model for LineBuffer {
     ghost Value = { Option (List ℕ) };
 
-    ghost view = { λ b. option_map (λ n. take n b.bytes) b.len };
-
-    ghost invariant = { λ b. ForSome b.len (λ n. n ≤ 256) };
+    ghost view = { λ b. b.text };
 }
 
 impl LineBuffer {
@@ -28,8 +26,7 @@ impl LineBuffer {
         ensures { result ≡ kept [] }
     {
         LineBuffer {
-            bytes: [0; MOST],
-            len: Some(0),
+            text: Some(Text::new()),
         }
     }
 
@@ -37,34 +34,30 @@ impl LineBuffer {
     pub fn is_empty(&self) -> bool
         ensures { (line : List ℕ) → self.now ≡ kept line → result ≡ (length line == 0) }
     {
-        self.len == Some(0)
+        self.line().is_some_and(|line| line.is_empty())
     }
 
     // Takes one byte more.
     pub fn push(&mut self, b: u8)
         ensures { (line : List ℕ) → self.old ≡ kept line → self.new ≡ kept (line ++ (b ∷ [])) }
     {
-        self.len = match self.len {
-            Some(n) if n < MOST => {
-                self.bytes[n] = b;
-                Some(n + 1)
-            }
-            _ => None,
-        };
+        match &mut self.text {
+            Some(text) if text.as_bytes().len() < MOST => text.push(b),
+            _ => self.text = None,
+        }
     }
 
     // Begins the next line.
     pub fn clear(&mut self)
         ensures { self.new ≡ kept [] }
     {
-        self.len = Some(0);
+        self.text = Some(Text::new());
     }
 
     // The line, where it was kept.
     pub fn line(&self) -> Option<&[u8]>
         ensures { option_map (λ x. x.now) result ≡ self.now }
     {
-        let n = self.len?;
-        Some(&self.bytes[0..n])
+        self.text.as_ref().map(|text| text.as_bytes())
     }
 }

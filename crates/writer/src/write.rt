@@ -67,7 +67,7 @@ impl<const N: usize> Text<N> {
     }
 
     // Adds one byte.
-    fn push(&mut self, b: u8)
+    pub fn push(&mut self, b: u8)
         requires { length self.old < N }
         ensures { self.new ≡ self.old ++ (b ∷ []) }
     {
