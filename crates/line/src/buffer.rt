@@ -1,4 +1,4 @@
-ghost use Rattle.std.specs.Prelude.{◌≡◌, ℕ, List, [], ◌∷◌, ◌++◌, length, Option, ◌==◌};
+ghost use Rattle.std.specs.Prelude.{◌≡◌, ℕ, ◌≤◌, List, [], ◌∷◌, ◌++◌, length, Option, IfSome, ◌==◌};
 ghost use Rattle.std.specs.Option.{option_map};
 ghost use Rattle.session.specs.Lines.{kept};
 
@@ -30,17 +30,31 @@ impl LineBuffer {
         }
     }
 
+    // A line that is kept has at most 256 bytes. Clauses see no more of a buffer than the line, so this tells it.
+    fn tell_within(&self)
+        ensures { IfSome self.now (λ line. length line ≤ 256) }
+    {
+        if let Some(text) = &self.text {
+            let _ = text.as_bytes();
+        }
+    }
+
     // Whether the line has no byte yet.
     pub fn is_empty(&self) -> bool
-        ensures { (line : List ℕ) → self.now ≡ kept line → result ≡ (length line == 0) }
+        ensures within { IfSome self.now (λ line. length line ≤ 256) }
+        ensures empty { (line : List ℕ) → self.now ≡ kept line → result ≡ (length line == 0) }
     {
+        self.tell_within();
         self.line().is_some_and(|line| line.is_empty())
     }
 
     // Takes one byte more.
     pub fn push(&mut self, b: u8)
-        ensures { (line : List ℕ) → self.old ≡ kept line → self.new ≡ kept (line ++ (b ∷ [])) }
+        ensures before { IfSome self.old (λ line. length line ≤ 256) }
+        ensures after { IfSome self.new (λ line. length line ≤ 256) }
+        ensures taken { (line : List ℕ) → self.old ≡ kept line → self.new ≡ kept (line ++ (b ∷ [])) }
     {
+        self.tell_within();
         match &mut self.text {
             Some(text) if text.as_bytes().len() < MOST => text.push(b),
             _ => self.text = None,
@@ -56,8 +70,10 @@ impl LineBuffer {
 
     // The line, where it was kept.
     pub fn line(&self) -> Option<&[u8]>
-        ensures { option_map (λ x. x.now) result ≡ self.now }
+        ensures line { option_map (λ x. x.now) result ≡ self.now }
+        ensures within { IfSome self.now (λ line. length line ≤ 256) }
     {
+        self.tell_within();
         self.text.as_ref().map(|text| text.as_bytes())
     }
 }
