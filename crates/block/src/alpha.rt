@@ -11,6 +11,25 @@ struct Words {
     low: u64,
 }
 
+impl From<Block> for Words {
+    ghost from_gives = { λ x w. joined w.high w.low ≡ x };
+
+    fn from(x: Block) -> Words {
+        Words {
+            high: (x >> 64) as u64,
+            low: (x & 0xffff_ffff_ffff_ffff) as u64,
+        }
+    }
+}
+
+impl From<Words> for Block {
+    ghost from_gives = { λ w x. x ≡ joined w.high w.low };
+
+    fn from(w: Words) -> Block {
+        ((w.high as u128) << 64) + w.low as u128
+    }
+}
+
 // Doubling by shifts and masks on two words.
 fn double_words(w: Words) -> Words
     ensures { joined result.high result.low ≡ α (joined w.high w.low) }
@@ -25,9 +44,5 @@ fn double_words(w: Words) -> Words
 pub fn double(x: Block) -> Block
     ensures { result ≡ α x }
 {
-    let w = double_words(Words {
-        high: (x >> 64) as u64,
-        low: (x & 0xffff_ffff_ffff_ffff) as u64,
-    });
-    ((w.high as u128) << 64) + w.low as u128
+    double_words(x.into()).into()
 }
