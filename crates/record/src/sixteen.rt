@@ -9,7 +9,7 @@ pub fn read_sixteen(bytes: &[u8], k: usize) -> u32
     ensures value { result ≡ field_of k bytes.now }
     ensures below { result < 2 ^ 16 }
 {
-    bytes[2 * k] as u32 * 256 + bytes[2 * k + 1] as u32
+    u32::from(u16::from_be_bytes([bytes[2 * k], bytes[2 * k + 1]]))
 }
 
 // Writes the number at place k, from 0.
@@ -17,8 +17,9 @@ fn write_sixteen(out: &mut [u8], k: usize, n: u32)
     requires { 2 * k + 2 ≤ length out.old }
     ensures { out.new ≡ take (2 * k) out.old ++ (bytes_of 2 n ++ drop (2 * k + 2) out.old) }
 {
-    out[2 * k] = (n / 256 % 256) as u8;
-    out[2 * k + 1] = (n % 256) as u8;
+    let [high, low] = ((n % 65536) as u16).to_be_bytes();
+    out[2 * k] = high;
+    out[2 * k + 1] = low;
 }
 
 // Writes numbers one after another, from the front on.
