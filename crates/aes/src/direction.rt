@@ -39,7 +39,7 @@ pub trait Direction {
     fn ordered(x: Columns) -> Columns
         ensures { result ≡ order x };
 
-    // Each column of the state that is substituted and shifted is a diagonal of the columns, with that column turned to the front.
+    // Column j of the state that is substituted and shifted is a diagonal through the S-box: that of the columns turned j times.
     ghost shifts: { (x : Columns) → sub_shift (state x) ≡ map sub (diagonals order x) };
 }
 

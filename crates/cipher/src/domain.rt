@@ -1,8 +1,8 @@
 ghost use Rattle.std.specs.Prelude.{◌≡◌};
 ghost use Rattle.cipher.specs.Tweaks.{number_of};
 
-// The number of a domain of the mode. It is looked up by its written name, and no enum, as docs/DECISIONS.md says: the
-// mode's definitions name a domain so. Another name has none.
+// The number of a domain of the mode. A domain is told by its written name and not by an enum, since the mode's definitions
+// name it so. Another name has none.
 pub fn domain_number(name: &str) -> Option<u8>
     ensures { result ≡ number_of name.now }
 {

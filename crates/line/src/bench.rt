@@ -114,7 +114,7 @@ impl Bench {
         }
     }
 
-    // The sizes are those of the arrays. Clauses see lists in their place, so this tells them.
+    // Clauses see lists in place of the arrays. What is called here is called for what it tells: the arrays' sizes.
     fn tell_sizes(&self)
         ensures { Sized self.now }
     {

@@ -63,8 +63,10 @@ impl LineBuffer {
 
     // Begins the next line.
     pub fn clear(&mut self)
-        ensures { self.new ≡ kept [] }
+        ensures before { IfSome self.old (λ line. length line ≤ 256) }
+        ensures cleared { self.new ≡ kept [] }
     {
+        self.tell_within();
         self.text = Some(Text::new());
     }
 

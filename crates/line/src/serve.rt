@@ -97,7 +97,7 @@ fn show(store: &Store<AnyCipher>, memory: &[u8], slot: u32, out: &mut Text<ANSWE
     }
 }
 
-// A command on a formed store, which form is not. What is served goes by the command's cases.
+// A command on a formed store, which form is not. It is one match, since each case takes other parts of the store.
 pub fn serve(
     store: &mut Store<AnyCipher>,
     memory: &mut [u8],

@@ -39,7 +39,7 @@ pub fn to_twos(n: i32) -> u32
     n.rem_euclid(65536) as u32
 }
 
-// The signed number that has this two's complement, by the definition's own case.
+// The signed number that has this two's complement, by the two cases of its definition.
 pub fn from_twos(n: u32) -> i32
     requires { n < 2 ^ 16 }
     ensures { result ≡ signed n }

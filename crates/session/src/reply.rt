@@ -1,6 +1,6 @@
 use record::sheet::Sheet;
 
-// What an accepted line is answered, where it is not a page's bytes: three texts, of which get has two.
+// What an accepted line is answered, where it is not a page's bytes: three answers, of which two are those of get.
 #[derive(Clone, Copy)]
 pub enum Reply {
     Done,

@@ -31,7 +31,8 @@ fn permute(t: u8x16) -> u8x16
     t.swizzle([9, 15, 8, 13, 10, 14, 12, 11, 0, 1, 2, 3, 4, 5, 6, 7])
 }
 
-// The head two rounds later, by a list of places as `permute` has. The permutation exchanges the halves, so two of them permute each half.
+// The head two rounds later, by a list of places as `permute` has. The permutation exchanges the halves, so two of them
+// permute each half.
 fn head_after_two(t: u8x16) -> u8x16
     ensures { result ≡ twice t }
 {

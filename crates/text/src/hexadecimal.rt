@@ -13,8 +13,8 @@ fn nibble(b: u8) -> Option<u8>
     }
 }
 
-// Reads bytes in hexadecimal digits, as many as there is room for; none where the text is not just those. A caller may have a
-// buffer of any length, which an array by a const parameter would not be.
+// Reads bytes in hexadecimal digits, as many as there is room for; none where the text is not just those. The buffer may
+// have any length; an array by a const parameter would promise less.
 pub fn bytes_of(text: &[u8], out: &mut [u8]) -> Option<()>
     ensures { Unhexed text.now out.new result }
 {

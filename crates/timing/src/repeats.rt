@@ -1,5 +1,5 @@
-// Steps of a cipher, each on the result of the one before. A key's cipher and its step come from each export, which C calls with
-// its arguments apart.
+// Steps of a cipher, each on the result of the one before. Each export hands over how the cipher of a key is made, and what its
+// step is.
 ghost use Rattle.std.specs.Prelude.{◌≡◌, ℕ, ◌≤◌, List, length, if◌then◌else◌, ◌==◌, nat_eq, Some, None, is_some};
 ghost use Rattle.block.specs.Blocks.{block as block_of};
 ghost use Rattle.timing.specs.Repeats.{iterated, worked, paired, told};

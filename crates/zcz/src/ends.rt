@@ -1,5 +1,5 @@
-// Tweaks by the names of their domains, and pairs of blocks encrypted with each other, and back. Each name is a literal where
-// these are called, and is shown there to have a number.
+// Tweaks by the names of their domains; pairs of blocks encrypted with each other, and back; and the hash. Each name is in the
+// end a literal, which is shown to have a number where it stands.
 ghost use Rattle.std.specs.Prelude.{◌≡◌, ℕ, ◌+◌, ◌^◌, ◌<◌, true, is_some};
 ghost use Rattle.std.specs.Option.{unwrap_or};
 ghost use Rattle.cipher.specs.Tweaks.{number_of, head_of, tweaked, tweaked_by};
