@@ -43,8 +43,7 @@ fn word(bytes: &[u8]) -> Option<Word>
 fn key(bytes: &[u8]) -> Option<Block>
     ensures { Reads IsKey key_text bytes.now result }
 {
-    let mut out = [0; 16];
-    bytes_of(bytes, &mut out)?;
+    let out: [u8; 16] = bytes_of(bytes)?;
     Some(read_block(&out, 0))
 }
 

@@ -41,7 +41,6 @@ unfoldable pub hex : List ℕ → List ℕ
 hex [] = []
 hex (b ∷ bs) = digit_char (b / 16) ∷ (digit_char (b % 16) ∷ hex bs)
 
--- the answer of a reader of as many bytes as `out` has room for, which then holds them
-abbrev pub Unhexed : List ℕ → List ℕ → Option (Unit {0}) → Type 0
-Unhexed text out None = (bs : List ℕ) → length bs ≡ length out → AllBelowBase 256 bs → text ≢ hex bs
-Unhexed text out (Some _) = AllBelowBase 256 out × (text ≡ hex out)
+-- the answer of a reader of n bytes
+abbrev pub Unhexed : ℕ → List ℕ → Option (List ℕ) → Type 0
+Unhexed n text read = Reads (λ bs. (length bs ≡ n) × AllBelowBase 256 bs) hex text read

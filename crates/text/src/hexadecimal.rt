@@ -13,18 +13,18 @@ fn nibble(b: u8) -> Option<u8>
     }
 }
 
-// Reads bytes in hexadecimal digits, as many as there is room for; none where the text is not just those. The buffer may
-// have any length; an array by a const parameter would promise less.
-pub fn bytes_of(text: &[u8], out: &mut [u8]) -> Option<()>
-    ensures { Unhexed text.now out.new result }
+// The N bytes that a text writes in hexadecimal digits, where it is just those.
+pub fn bytes_of<const N: usize>(text: &[u8]) -> Option<[u8; N]>
+    ensures { Unhexed N text.now result }
 {
-    if text.len() != 2 * out.len() {
+    if text.len() / 2 != N || text.len() % 2 != 0 {
         return None;
     }
+    let mut out = [0; N];
     for (i, b) in out.iter_mut().enumerate() {
         let high = nibble(text[2 * i])?;
         let low = nibble(text[2 * i + 1])?;
         *b = high * 16 + low;
     }
-    Some(())
+    Some(out)
 }
