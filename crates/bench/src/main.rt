@@ -28,7 +28,7 @@ impl<W: Write + Drop> Responder<W> {
 
     // Answers the line that was taken, and begins the next.
     fn respond(&mut self) -> io::Result<()> {
-        self.bench.answer(self.line.line(), &mut self.text);
+        self.bench.answer_text(self.line.line(), &mut self.text);
         self.line.clear();
         self.output.write_all(self.text.as_bytes())?;
         self.output.write_all(b"\n")

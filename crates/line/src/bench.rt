@@ -10,7 +10,7 @@ ghost use Rattle.session.specs.States.{start};
 ghost use Rattle.session.specs.Lines.{Asks, Acts};
 ghost use Rattle.session.specs.History.{Law};
 ghost use Rattle.line.specs.Benches.{Sized};
-ghost use Rattle.line.specs.Says.{Says};
+ghost use Rattle.line.specs.Says.{Says, SaysInto};
 
 use crate::say::say;
 use crate::serve::serve;
@@ -25,7 +25,7 @@ use session::refusal::Refusal;
 use session::reply::Reply;
 use std::marker::Model;
 use store::store::Store;
-use writer::write::Text;
+use writer::write::{Text, word};
 
 // How many bytes an answer has at most.
 pub const ANSWER: usize = 8192;
@@ -127,7 +127,7 @@ impl Bench {
     }
 
     // Answers a line: writes the text of its answer, in place of what the text was.
-    pub fn answer(&mut self, line: Option<&[u8]>, out: &mut Text<ANSWER>)
+    pub fn answer_text(&mut self, line: Option<&[u8]>, out: &mut Text<ANSWER>)
         ensures within { length out.new ≤ 8192 }
         ensures sized { Sized self.old × Sized self.new }
         ensures says { (o : Option commands.Command) × Asks (option_map (λ x. x.now) line.entry) o × Says (λ a. Acts self.old o self.new a) out.new }
@@ -139,5 +139,17 @@ impl Bench {
         self.tell_sizes();
         // The call is made for its promise: that the text is within its capacity.
         let _ = out.as_bytes();
+    }
+
+    // Answers a line into a caller's array: writes the text of its answer from the front of `out` on, and says how long it is.
+    pub fn answer(&mut self, line: Option<&[u8]>, out: &mut [u8; ANSWER]) -> usize
+        ensures within { result ≤ 8192 }
+        ensures sized { Sized self.old × Sized self.new }
+        ensures says { (o : Option commands.Command) × Asks (option_map (λ x. x.now) line.entry) o × SaysInto (λ a. Acts self.old o self.new a) out.old out.new result }
+        ensures law { Law }
+    {
+        let mut text = Text::new();
+        self.answer_text(line, &mut text);
+        word(out, 0, text.as_bytes())
     }
 }

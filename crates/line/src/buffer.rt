@@ -57,7 +57,8 @@ impl LineBuffer {
         self.tell_within();
         match &mut self.text {
             Some(text) if text.as_bytes().len() < MOST => text.push(b),
-            _ => self.text = None,
+            Some(_) => self.text = None,
+            None => (),
         }
     }
 
