@@ -13,10 +13,10 @@ const CONSTANTS: [u8; 56] = [
 ];
 
 // The table holds the constants that the 6-bit shift rule gives, in the order of the rounds.
-fn table() -> [u8; 56]
-    ensures { result ≡ map constant_at (range_with_len 0 56) }
+fn table() -> &'static [u8; 56]
+    ensures { result.now ≡ map constant_at (range_with_len 0 56) }
 {
-    CONSTANTS
+    &CONSTANTS
 }
 
 // The constant of round i, from 0.
