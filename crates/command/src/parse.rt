@@ -9,7 +9,7 @@ use block::bytes::read_block;
 use block::diblock::Block;
 use ciphers::name::CipherName;
 use record::fields::SheetFields;
-use text::hexadecimal::bytes_of;
+use text::hexadecimal::array_of;
 use text::numerals::{cut, number, seven};
 
 // The cipher of a letter.
@@ -43,7 +43,7 @@ fn word(bytes: &[u8]) -> Option<Word>
 fn key(bytes: &[u8]) -> Option<Block>
     ensures { Reads IsKey key_text bytes.now result }
 {
-    let out: [u8; 16] = bytes_of(bytes)?;
+    let out: [u8; 16] = array_of(bytes)?;
     Some(read_block(&out, 0))
 }
 

@@ -1,11 +1,13 @@
 -- Hexadecimal digits, two to a byte.
-use Rattle.std.proofs.Common.{◌≡◌, ℕ, zero, suc, ◌+◌, ◌*◌, ◌/◌, ◌%◌, ◌<◌, List, [], ◌∷◌, ◌++◌, length, get_or, take, set, sym, refl, ap, ◌∙◌, append_assoc, arith}
+use Rattle.std.proofs.Common.{◌≡◌, ℕ, zero, suc, ◌+◌, ◌*◌, ◌/◌, ◌%◌, ◌<◌, ◌≤◌, List, [], ◌∷◌, ◌++◌, length, get_or, take, set, rules, Option, Some, None, sym, ⊎_elim, refl, ap, ◌∙◌, append_assoc, arith}
 use Rattle.std.specs.Char.{digit_char, digit_value}
 use Rattle.std.specs.Int.Digits.{AllBelowBase}
-use Rattle.std.proofs.ByRecursion.{All-push}
+use Rattle.std.proofs.ByRecursion.{All-push, All-get_or}
+use Rattle.std.proofs.lemmas.Bool.{cases_lt}
 use Rattle.std.proofs.lemmas.List.{take_more, take_more_set}
 use Rattle.std.proofs.lemmas.Str.{digit_value-digit_char}
-use Rattle.text.specs.Texts.{hex}
+use Rattle.std.specs.Option.{IsSome}
+use Rattle.text.specs.Texts.{Reads, IsDigit, hex}
 
 pub length-hex : (bs : List ℕ) → length (hex bs) ≡ 2 * length bs
 unfolding hex
@@ -33,6 +35,22 @@ unfolding hex
 hex_low [] i h = absurd (omega arith)
 hex_low (b ∷ bs) zero h = refl
 hex_low (b ∷ bs) (suc i) h = let e : 2 * suc i + 1 ≡ suc (suc (2 * i + 1)) = omega arith in rw e (hex_low bs i (omega arith))
+
+-- each byte of such a text is a digit
+pub hex_digit : (bs : List ℕ) (k : ℕ) → k < length (hex bs) → AllBelowBase 256 bs → IsDigit (get_or (hex bs) k 0)
+hex_digit bs k l all =
+    let i = k / 2 in
+    let here : i < length bs = omega (arith, length-hex bs) in
+    let small : get_or bs i 0 < 256 = All-get_or (λ d. d < 256) bs i 0 here all in
+    ⊎_elim
+    (λ (h : k % 2 < 1). let e : k ≡ 2 * i = omega arith in (get_or bs i 0 / 16, omega arith, ap (λ j. get_or (hex bs) j 0) e ∙ hex_high bs i here))
+    (λ (h : 1 ≤ k % 2). let e : k ≡ 2 * i + 1 = omega arith in (get_or bs i 0 % 16, omega arith, ap (λ j. get_or (hex bs) j 0) e ∙ hex_low bs i here))
+    (cases_lt (k % 2) 1)
+
+-- a digit has a value
+pub digit_read : (b : ℕ) (read : Option ℕ) → IsDigit b → Reads (λ d. d < 16) digit_char b read → IsSome read
+digit_read b (Some d) is h = search rules
+digit_read b None (d, small, is) none = absurd (none d small is)
 
 two_more : (text : List ℕ) (i : ℕ) → 2 * i + 1 < length text → take (2 * (i + 1)) text ≡ take (2 * i) text ++ (get_or text (2 * i) 0 ∷ (get_or text (2 * i + 1) 0 ∷ []))
 two_more text i l =

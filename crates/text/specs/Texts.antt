@@ -1,5 +1,5 @@
 -- Texts as lists of bytes, and what it is to read one.
-use Rattle.std.specs.Prelude.{◌≡◌, ℕ, ◌/◌, ◌%◌, ◌<◌, List, [], ◌∷◌, ◌++◌, length, Some, None, decimal, Option, ◌≢◌}
+use Rattle.std.specs.Prelude.{◌≡◌, ℕ, ◌/◌, ◌%◌, ◌<◌, Bool, true, false, List, [], ◌∷◌, ◌++◌, length, Some, None, decimal, Option, ◌≢◌}
 use Rattle.std.specs.Char.{digit_char}
 use Rattle.std.specs.Int.Digits.{AllBelowBase}
 use Rattle.std.specs.List.{AllByRecursion}
@@ -36,11 +36,20 @@ listed (n ∷ (m ∷ ns)) = decimal n ++ (44 ∷ listed (m ∷ ns))
 abbrev pub Filled : ℕ → List ℕ → Option (List ℕ) → Type 0
 Filled n bs read = Reads (λ ns. (length ns ≡ n) × AllByRecursion Small ns) listed bs read
 
+-- a lower-case hexadecimal digit
+abbrev pub IsDigit : ℕ → Type 0
+IsDigit b = (d : ℕ) × (d < 16) × (b ≡ digit_char d)
+
 -- bytes in lower-case hexadecimal digits, two to a byte, the high one first
 unfoldable pub hex : List ℕ → List ℕ
 hex [] = []
 hex (b ∷ bs) = digit_char (b / 16) ∷ (digit_char (b % 16) ∷ hex bs)
 
+-- whether a text was that of as many bytes as `out` has room for; if so, `out` holds them
+abbrev pub Unhexed : List ℕ → List ℕ → Bool → Type 0
+Unhexed text out true = AllBelowBase 256 out × (text ≡ hex out)
+Unhexed text out false = (bs : List ℕ) → length bs ≡ length out → AllBelowBase 256 bs → text ≢ hex bs
+
 -- the answer of a reader of n bytes
-abbrev pub Unhexed : ℕ → List ℕ → Option (List ℕ) → Type 0
-Unhexed n text read = Reads (λ bs. (length bs ≡ n) × AllBelowBase 256 bs) hex text read
+abbrev pub UnhexedArray : ℕ → List ℕ → Option (List ℕ) → Type 0
+UnhexedArray n text read = Reads (λ bs. (length bs ≡ n) × AllBelowBase 256 bs) hex text read
