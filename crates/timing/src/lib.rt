@@ -27,7 +27,7 @@ pub extern "C" fn dikhelwa_skinny_encrypt(work: &mut [u8], n: usize) -> u8
         work,
         n,
         Skinny::new,
-        |cipher, tweak, x| cipher.encrypt(tweak, x),
+        |skinny, tweak, x| skinny.encrypt(tweak, x),
     ))
 }
 
@@ -41,7 +41,7 @@ pub extern "C" fn dikhelwa_skinny_decrypt(work: &mut [u8], n: usize) -> u8
         work,
         n,
         Skinny::new,
-        |cipher, tweak, x| cipher.decrypt(tweak, x),
+        |skinny, tweak, x| skinny.decrypt(tweak, x),
     ))
 }
 
@@ -73,7 +73,7 @@ pub extern "C" fn dikhelwa_cascade_encrypt(work: &mut [u8], n: usize) -> u8
         work,
         n,
         Cascade::new,
-        |cipher, tweak, x| cipher.encrypt(tweak, x),
+        |cascade, tweak, x| cascade.encrypt(tweak, x),
     ))
 }
 
@@ -87,7 +87,7 @@ pub extern "C" fn dikhelwa_cascade_decrypt(work: &mut [u8], n: usize) -> u8
         work,
         n,
         Cascade::new,
-        |cipher, tweak, x| cipher.decrypt(tweak, x),
+        |cascade, tweak, x| cascade.decrypt(tweak, x),
     ))
 }
 
