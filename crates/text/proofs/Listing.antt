@@ -1,12 +1,12 @@
 -- Numbers with commas between them.
-use Rattle.std.proofs.Common.{◌≡◌, ℕ, zero, suc, ◌+◌, ◌<◌, ◌≤◌, List, [], ◌∷◌, ◌++◌, length, get_or, take, drop, set, decimal, Some, None, Option, sym, refl, ap, ◌∙◌, subst, ⊎_elim, append_assoc, add-one, arith}
+use Rattle.std.proofs.Common.{◌≡◌, ℕ, zero, suc, ◌+◌, ◌*◌, ◌<◌, ◌≤◌, List, [], ◌∷◌, ◌++◌, length, get_or, take, drop, set, decimal, Some, None, Option, sym, refl, ap, ◌∙◌, subst, ⊎_elim, append_assoc, add-one, arith}
 use Rattle.std.specs.List.{AllByRecursion}
 use Rattle.std.proofs.ByRecursion.{All-push, All-get_or}
-use Rattle.std.proofs.lemmas.List.{take_more_set, length-set}
+use Rattle.std.proofs.lemmas.List.{length-append, take_more_set, length-set}
 use Rattle.std.proofs.lemmas.Bool.{cases_lt}
 use Rattle.text.specs.Texts.{Small, Free, Cut, listed}
 use Rattle.text.proofs.Cuts.{same_cut, no_cut}
-use Rattle.text.proofs.Digits.{numeral_free, same_numeral}
+use Rattle.text.proofs.Digits.{numeral_free, numeral_short, same_numeral}
 
 -- each number and a comma
 unfoldable pub heads : List ℕ → List ℕ
@@ -48,6 +48,13 @@ listed_last (n ∷ []) zero h = refl
 listed_last (n ∷ []) (suc i) h = absurd (omega arith)
 listed_last (n ∷ (m ∷ ns)) zero h = absurd (omega arith)
 listed_last (n ∷ (m ∷ ns)) (suc i) h = listed_last (m ∷ ns) i (omega arith)
+
+-- five digits a number, and the commas
+pub length-listed : (ns : List ℕ) → AllByRecursion Small ns → length (listed ns) ≤ 6 * length ns
+unfolding listed
+length-listed [] h = omega arith
+length-listed (n ∷ []) h = omega (arith, numeral_short (decimal n) n h.0 refl)
+length-listed (n ∷ (m ∷ ns)) h = omega (arith, numeral_short (decimal n) n h.0 refl, length-listed (m ∷ ns) h.1, length-append (decimal n) (44 ∷ listed (m ∷ ns)))
 
 -- that piece is number i of the numbers ns, and what follows is the text of the numbers after it
 abbrev Shows : List ℕ → ℕ → List ℕ → Option (List ℕ) → Type 0

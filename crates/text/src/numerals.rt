@@ -55,6 +55,10 @@ fn numbers<const N: usize>(bytes: &[u8]) -> Option<[u32; N]>
     requires { 0 < N }
     ensures { Filled N bytes.now result }
 {
+    // Longer than N numbers of five digits and their commas: refused before it is looked through.
+    if bytes.len() / (MOST_DIGITS + 1) > N {
+        return None;
+    }
     let mut out = [0; N];
     let mut rest = Some(bytes);
     for n in out.iter_mut() {

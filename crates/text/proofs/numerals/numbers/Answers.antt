@@ -1,10 +1,13 @@
-use Rattle.std.proofs.Common.{ℕ, ◌∙◌, arith}
+use Rattle.std.proofs.Common.{ℕ, length, ap, ◌∙◌, arith}
 use Rattle.std.proofs.lemmas.List.{length-set, length-replicate}
-use Rattle.text.proofs.Listing.{reading_none, reading_more, unread}
+use Rattle.text.proofs.Listing.{length-listed, reading_none, reading_more, unread}
 use Rattle.text.proofs.numerals.numbers.Goals as goal
 
 pub loop-n-init : goal.loop-n-init
 loop-n-init g c = (length-replicate g.row.N 0, reading_none c.args.bytes.now _ (omega (arith, length-replicate {A = ℕ} g.row.N 0)))
+
+pub returns-then-bytes : goal.returns-then-bytes
+returns-then-bytes g c = λ ns h e. omega (arith, h.0, ap length e, length-listed ns h.1, c.if-bytes)
 
 pub returns-in_err-n : goal.returns-in_err-n
 returns-in_err-n g c = rw c.from_residual-in_err-n.ensures (λ ns h e.
